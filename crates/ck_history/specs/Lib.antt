@@ -1,0 +1,4 @@
+pub mod Key
+pub mod Map
+pub mod Page
+pub mod Legal

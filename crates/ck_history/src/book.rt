@@ -1,0 +1,71 @@
+ghost use Rattle.std.specs.Prelude.{◌≡◌, ℕ, [], IfOk, OnOk, OnErr};
+ghost use Rattle.ck_history.specs.Map.{IsMap, find, step};
+ghost use Rattle.ck_history.specs.Page.{Page};
+
+use std::alloc::{AllocError, Global};
+use std::marker::Model;
+
+use crate::update::{Reply, Update};
+
+/// A map of at most `most` pairs, kept by one thread as a sorted list: the plain body of the map's definition.
+/// A look-up takes time in the logarithm of the number of pairs, a fresh key or a removal in their number.
+#[derive(Debug, Drop)]
+pub struct Book<K: Ord + Copy> {
+    most: u64,
+    pairs: Vec<(K, u64)>,
+}
+
+impl<K: Ord + Copy> Model for Book<K> {
+    ghost use Rattle.ck_history.specs.Page.{Page};
+    ghost use Rattle.ck_history.specs.Map.{IsMap};
+
+    ghost Value = { Page K };
+
+    ghost view = { λ b. record { most = b.most; pairs = b.pairs.items } };
+
+    ghost invariant = { λ b. IsMap K.cmp b.pairs.items };
+}
+
+impl<K: Ord + Copy> Book<K> {
+    /// The empty map of at most `most` pairs. It takes no memory yet.
+    pub fn new(alloc: Global, most: u64) -> Book<K>
+        ensures { result ≡ record { most = most; pairs = [] } }
+    {
+        Book {
+            most,
+            pairs: Vec::new(alloc),
+        }
+    }
+
+    /// The value beside the key.
+    pub fn find(&self, key: &K) -> Option<u64>
+        ensures { result ≡ find K.cmp self.now.pairs key.now }
+    {
+        match place_of(&self.pairs, key) {
+            Ok(at) => Some(self.pairs[at].1),
+            Err(_) => None,
+        }
+    }
+
+    /// The pairs, by ascending key.
+    pub fn pairs(&self) -> &[(K, u64)]
+        ensures all { result.now ≡ self.now.pairs }
+        ensures ascending { IsMap K.cmp self.now.pairs }
+    {
+        &self.pairs
+    }
+
+    /// Makes one update, and answers its reply. An `AllocError` changes nothing.
+    pub fn apply(&mut self, u: Update<K>) -> Result<Reply, AllocError>
+        ensures reply { IfOk result (λ reply. reply ≡ (step K.cmp self.old.most self.old.pairs u).1) }
+        ensures ok { OnOk result (self.new ≡ record self.old { pairs = (step K.cmp self.old.most self.old.pairs u).0 }) }
+        ensures err { OnErr result (self.new ≡ self.old) }
+    {
+        match u {
+            Update::Set(key, value) => self.set(key, value),
+            Update::Put(key, value) => self.put(key, value),
+            Update::Del(key) => Ok(self.remove(&key)),
+            Update::Tidy => Ok(Reply::Tidied),
+        }
+    }
+}

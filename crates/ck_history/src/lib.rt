@@ -1,0 +1,11 @@
+//! The map of one thread: the keys of a table, updates and their replies, and a plain body of the map.
+//! What every report is measured by: `specs/Map.antt` is the map, `specs/Legal.antt` says which answers are legal.
+#![tactic(auto)]
+
+mod book;
+mod key;
+mod update;
+
+pub use book::Book;
+pub use key::Key;
+pub use update::{Reply, Update};
