@@ -1,0 +1,66 @@
+-- What is said by a file that is read line by line.
+use Rattle.std.proofs.Common.{◌≡◌, ℕ, zero, suc, ◌+◌, ◌<◌, ◌≤◌, List, [], ◌∷◌, ◌++◌, length, refl, ap, arith, ◌∙◌, sym, subst, inl, inr, append_assoc, append-nil, add-zero}
+use Rattle.std.proofs.lemmas.List.{length_push}
+use Rattle.ck_script.specs.declared.line.Numbered.{Numbered}
+use Rattle.ck_script.specs.declared.fault.Why.{Why}
+use Rattle.ck_script.specs.declared.fault.ScriptFault.{ScriptFault}
+use Rattle.ck_script.specs.Text.{lines, words, IsSilent}
+use Rattle.ck_script.specs.Grammar.{Says, Say, FileSays, Adds, IsFirstFault}
+use Rattle.ck_script.specs.Reading.{IsFaultyLine}
+
+module _ {L : Type 0} (IsTaken : L → Type 0) (spelling : L → List (List ℕ)) where
+  moved : (n k : ℕ) → n + suc k ≡ n + 1 + k
+  moved n k = omega arith
+
+  -- of a file's lines the first `number` say this, and the rest has the others
+  pub record Read (bytes : List ℕ) (number : ℕ) (rest : List ℕ) (said : List (Numbered L)) : Type 0 where
+    pub front : List (List ℕ)
+    pub here : lines bytes ≡ front ++ lines rest
+    pub count : length front ≡ number
+    pub says : Say IsTaken spelling 1 front said
+
+  -- a further line adds what it says
+  Say-snoc : (n : ℕ) (front : List (List ℕ)) (line : List ℕ) (old new : List (Numbered L)) → Say IsTaken spelling n front old → Adds IsTaken spelling (n + length front) line old new → Say IsTaken spelling n (front ++ line ∷ []) new
+  Say-snoc n [] line old new none (inl (silent, same)) = inl (silent, same ∙ none)
+  Say-snoc n [] line old new none (inr (what, says, added)) =
+      let here : new ≡ record { line = n; what = what } ∷ [] = rw (none, add-zero) at added in
+      inr (what, [], here, says, refl)
+  Say-snoc n (x ∷ front) line old new (inl (silent, later)) adds =
+      inl (silent, Say-snoc (n + 1) front line old new later (subst (λ m. Adds IsTaken spelling m line old new) (moved n (length front)) adds))
+  Say-snoc n (x ∷ front) line old new (inr (what, more, is, says, later)) (inl (silent, same)) =
+      inr (what, more, same ∙ is, says, Say-snoc (n + 1) front line more more later (inl (silent, refl)))
+  Say-snoc n (x ∷ front) line old new (inr (what, more, is, says, later)) (inr (last, says_last, added)) =
+      let end = more ++ record { line = n + 1 + length front; what = last } ∷ [] in
+      let whole : new ≡ record { line = n; what = what } ∷ end = rw (is, moved n (length front)) at added in
+      inr (what, end, whole, says, Say-snoc (n + 1) front line more end later (inr (last, says_last, refl)))
+
+  pub read_none : (bytes : List ℕ) → Read bytes 0 bytes []
+  read_none bytes = record { front = []; here = refl; count = refl; says = refl }
+
+  pub read_more : (bytes : List ℕ) (number : ℕ) (rest line later : List ℕ) (old new : List (Numbered L)) → Read bytes number rest old → lines rest ≡ line ∷ lines later → Adds IsTaken spelling (number + 1) line old new → Read bytes (number + 1) later new
+  read_more bytes number rest line later old new read cut adds = record {
+    front = read.front ++ line ∷ [];
+    here = read.here ∙ (ap (λ ls. read.front ++ ls) cut ∙ sym (append_assoc read.front (line ∷ []) (lines later)));
+    count = length_push read.front line ∙ ap (λ n. n + 1) read.count;
+    says = Say-snoc 1 read.front line old new read.says (subst (λ m. Adds IsTaken spelling m line old new) (omega (arith, read.count)) adds);
+  }
+
+  pub read_all : (bytes : List ℕ) (number : ℕ) (rest : List ℕ) (said : List (Numbered L)) → Read bytes number rest said → length rest ≡ 0 → FileSays IsTaken spelling bytes said
+  read_all bytes number (b ∷ rest) said read none = absurd (omega arith)
+  read_all bytes number [] said read none =
+      let whole : lines bytes ≡ read.front = read.here ∙ append-nil read.front in
+      subst (λ ls. Say IsTaken spelling 1 ls said) (sym whole) read.says
+
+  -- a line that is refused is the first that is outside the grammar
+  pub first_fault : (HasFault : List (List ℕ) → Why → Type 0) → ((what : L) (why : Why) → IsTaken what → HasFault (spelling what) why → ⊥) → (bytes : List ℕ) (number : ℕ) (rest line later : List ℕ) (said : List (Numbered L)) (fault : ScriptFault) → Read bytes number rest said → lines rest ≡ line ∷ lines later → IsFaultyLine HasFault (number + 1) line fault → IsFirstFault IsTaken spelling HasFault bytes fault
+  first_fault HasFault faultless bytes number rest line later said fault read cut faulty = record {
+    before = read.front;
+    faulty = line;
+    after = lines later;
+    here = read.here ∙ ap (λ ls. read.front ++ ls) cut;
+    number = omega (arith, faulty.number, read.count);
+    earlier = (said, read.says);
+    speaks = faulty.speaks;
+    outside = λ what says. faultless what fault.why says.taken (subst (λ ws. HasFault ws fault.why) says.spelt faulty.why);
+    why = faulty.why;
+  }

@@ -1,0 +1,138 @@
+-- What a script file says, and what is wrong with the first line that is outside the grammar.
+use Rattle.std.specs.Prelude.{◌≡◌, ◌≢◌, ℕ, ◌+◌, ◌<◌, ◌^◌, ◌⊎◌, List, [], ◌∷◌, ◌++◌, length, Option, Some, None, MatchOption, codes, decimal}
+use Rattle.std.specs.Map.{lookup}
+use Rattle.std.specs.Str.{bytes_eq}
+use Rattle.ck_history.specs.declared.update.Update.{Update}
+use Rattle.ck_history.specs.declared.update.Update.TheVariants.{Set, Put, Del, Tidy}
+use Rattle.ck_script.specs.declared.line.Numbered.{Numbered}
+use Rattle.ck_script.specs.declared.line.UpLine.{UpLine}
+use Rattle.ck_script.specs.declared.line.UpLine.TheVariants.{Call, Hold}
+use Rattle.ck_script.specs.declared.line.AskLine.{AskLine}
+use Rattle.ck_script.specs.declared.line.AskLine.TheVariants.{Ask, Wait}
+use Rattle.ck_script.specs.declared.fault.Why.{Why}
+use Rattle.ck_script.specs.declared.fault.Why.TheVariants.{Verb, Shape, Number}
+use Rattle.ck_script.specs.declared.fault.ScriptFault.{ScriptFault}
+use Rattle.ck_script.specs.declared.fault.ScriptError.{ScriptError}
+use Rattle.ck_script.specs.declared.fault.ScriptError.TheVariants.{Fault, Memory}
+use Rattle.ck_script.specs.Text.{lines, words, IsSilent}
+
+-- a word that is a number of 64 bits, in its one spelling
+abbrev pub IsNumber : List ℕ → Type 0
+IsNumber w = (n : ℕ) × (n < 2 ^ 64) × (w ≡ decimal n)
+
+-- what a script of lines of one kind says: each line has one spelling
+module _ {L : Type 0} (IsTaken : L → Type 0) (spelling : L → List (List ℕ)) where
+  -- the words of the line are the spelling of this
+  pub record Says (line : List ℕ) (what : L) : Type 0 where
+    pub taken : IsTaken what
+    pub spelt : words line ≡ spelling what
+
+  -- the lines, of which the first has the number n, say this: a silent line nothing, every other line one thing
+  abbrev pub Say : ℕ → List (List ℕ) → List (Numbered L) → Type 0
+  Say n [] said = said ≡ []
+  Say n (line ∷ later) said =
+    (IsSilent line × Say (n + 1) later said)
+    ⊎ ((what : L) × (more : List (Numbered L)) × (said ≡ record { line = n; what = what } ∷ more) × Says line what × Say (n + 1) later more)
+
+  -- the file says this, line by line
+  abbrev pub FileSays : List ℕ → List (Numbered L) → Type 0
+  FileSays bytes said = Say 1 (lines bytes) said
+
+  -- a further line, of this number, adds what it says to what was said
+  abbrev pub Adds : ℕ → List ℕ → List (Numbered L) → List (Numbered L) → Type 0
+  Adds n line old new =
+    (IsSilent line × (new ≡ old))
+    ⊎ ((what : L) × Says line what × (new ≡ old ++ record { line = n; what = what } ∷ []))
+
+  -- the fault is at the first line that is outside the grammar, and HasFault tells of its words what it is
+  pub record IsFirstFault (HasFault : List (List ℕ) → Why → Type 0) (bytes : List ℕ) (fault : ScriptFault) : Type 0 where
+    pub before : List (List ℕ)
+    pub faulty : List ℕ
+    pub after : List (List ℕ)
+    pub here : lines bytes ≡ before ++ faulty ∷ after
+    pub number : fault.line ≡ length before + 1
+    pub earlier : (said : List (Numbered L)) × Say 1 before said
+    pub speaks : IsSilent faulty → ⊥
+    pub outside : (what : L) → Says faulty what → ⊥
+    pub why : HasFault (words faulty) fault.why
+
+-- the words that may follow a verb
+pub data Argument : Type 0 where
+  key : Argument
+  number : Argument
+
+-- keys, what spells them, and what is wrong with a word that spells none
+module _ {K : Type 0} (IsKey : K → Type 0) (spelling : K → List ℕ) (IsKeyFault : List ℕ → Why → Type 0) where
+  -- the word is what stands for such an argument
+  abbrev pub IsRight : Argument → List ℕ → Type 0
+  IsRight key w = (k : K) × IsKey k × (w ≡ spelling k)
+  IsRight number w = IsNumber w
+
+  -- the word is none, for this reason
+  abbrev pub IsWrong : Argument → List ℕ → Why → Type 0
+  IsWrong key w why = IsKeyFault w why
+  IsWrong number w why = (why ≡ Number) × (IsNumber w → ⊥)
+
+  -- the reason of the first wrong word, from left to right
+  abbrev pub FirstWrong : List Argument → List (List ℕ) → Why → Type 0
+  FirstWrong (a ∷ more) (w ∷ ws) why = IsWrong a w why ⊎ (IsRight a w × FirstWrong more ws why)
+  FirstWrong _ _ why = ⊥
+
+  -- what is wrong with the words after a verb that wants these: their number first
+  abbrev pub HasArgumentFault : List Argument → List (List ℕ) → Why → Type 0
+  HasArgumentFault wanted ws why =
+    ((why ≡ Shape) × (length ws ≢ length wanted))
+    ⊎ ((length ws ≡ length wanted) × FirstWrong wanted ws why)
+
+  -- what is wrong with the words of a line, by a table of verbs: the verb first
+  abbrev pub HasFault : List (List ℕ × List Argument) → List (List ℕ) → Why → Type 0
+  HasFault verbs [] why = ⊥
+  HasFault verbs (verb ∷ ws) why = MatchOption (lookup (bytes_eq verb) verbs) (why ≡ Verb) (λ wanted. HasArgumentFault wanted ws why)
+
+-- the words of lines, where `spelling` spells keys
+module _ {K : Type 0} (spelling : K → List ℕ) where
+  -- the words of an update line
+  abbrev pub update_words : UpLine (Update K) → List (List ℕ)
+  update_words (Call (Set k v)) = codes "set" ∷ spelling k ∷ decimal v ∷ []
+  update_words (Call (Put k v)) = codes "put" ∷ spelling k ∷ decimal v ∷ []
+  update_words (Call (Del k)) = codes "del" ∷ spelling k ∷ []
+  update_words (Call Tidy) = codes "tidy" ∷ []
+  update_words (Hold file count) = codes "hold" ∷ decimal file ∷ decimal count ∷ []
+
+  -- the words of a line of a query file
+  abbrev pub query_words : AskLine K → List (List ℕ)
+  query_words (Ask k) = codes "get" ∷ spelling k ∷ []
+  query_words (Wait count) = codes "wait" ∷ decimal count ∷ []
+
+-- the lines that are taken
+module _ {K : Type 0} (IsKey : K → Type 0) where
+  -- keys are keys and numbers have 64 bits; a `hold` line isn't taken yet
+  abbrev pub IsUpdateLine : UpLine (Update K) → Type 0
+  IsUpdateLine (Call (Set k v)) = IsKey k × (v < 2 ^ 64)
+  IsUpdateLine (Call (Put k v)) = IsKey k × (v < 2 ^ 64)
+  IsUpdateLine (Call (Del k)) = IsKey k
+  IsUpdateLine (Call Tidy) = Unit {0}
+  IsUpdateLine (Hold file count) = ⊥
+
+  -- the same of a query file; a `wait` line isn't taken yet
+  abbrev pub IsQueryLine : AskLine K → Type 0
+  IsQueryLine (Ask k) = IsKey k
+  IsQueryLine (Wait count) = ⊥
+
+-- the verbs of update files that are taken, with what follows them
+abbrev pub update_verbs : List (List ℕ × List Argument)
+update_verbs =
+  (codes "set", key ∷ number ∷ [])
+  ∷ (codes "put", key ∷ number ∷ [])
+  ∷ (codes "del", key ∷ [])
+  ∷ (codes "tidy", [])
+  ∷ []
+
+-- the verbs of query files that are taken
+abbrev pub query_verbs : List (List ℕ × List Argument)
+query_verbs = (codes "get", key ∷ []) ∷ []
+
+-- the fact, where the script wasn't refused for want of memory
+abbrev pub IfFault : ScriptError → (ScriptFault → Type 0) → Type 0
+IfFault (Fault fault) P = P fault
+IfFault Memory P = Unit {0}

@@ -1,0 +1,72 @@
+ghost use Rattle.std.specs.Prelude.{◌≡◌, ◌++◌, MatchResult, OnOk, OnErr};
+
+use std::alloc::AllocError;
+
+use ck_history::Key;
+use itoa::Buffer;
+
+use crate::decimal::read_decimal;
+use crate::fault::Why;
+
+/// A key that scripts and reports spell as one word.
+pub trait KeyWord: Copy {
+    /// Which values are keys.
+    ghost is_key: { Self → Type 0 };
+
+    /// The one word that spells a key: bytes with no space and no line feed.
+    ghost spelling: { Self → List ℕ };
+
+    /// What is wrong with a word that spells no key.
+    ghost is_fault: { List ℕ → Why → Type 0 };
+
+    ghost use Rattle.std.specs.Prelude.{◌≡◌, ℕ, List};
+    ghost use Rattle.ck_script.specs.declared.fault.Why.{Why};
+
+    /// The key that the word spells, or what is wrong with the word.
+    fn read_word(text: &[u8]) -> Result<Self, Why>
+        ensures { MatchResult result (λ k. is_key k × (text.now ≡ spelling k)) (λ why. is_fault text.now why) };
+
+    /// Writes the key's word at the end. An `AllocError` leaves the text as it was.
+    fn print_word(&self, out: &mut Vec<u8>) -> Result<(), AllocError>
+        ensures ok { OnOk result (out.new.items ≡ out.old.items ++ spelling self.now) }
+        ensures err { OnErr result (out.new.items ≡ out.old.items) };
+
+    /// No two keys have one spelling.
+    ghost one_key: { (j k : Self) → is_key j → is_key k → spelling j ≡ spelling k → j ≡ k };
+
+    /// A word that spells a key has no fault.
+    ghost faultless: { (k : Self) (why : Why) → is_key k → is_fault (spelling k) why → ⊥ };
+}
+
+impl KeyWord for Key {
+    ghost use Rattle.std.specs.Prelude.{decimal};
+    ghost use Rattle.ck_history.specs.Key.{IsKey};
+    ghost use Rattle.ck_script.specs.Keys.{IsTableKeyFault, one_table_key, table_key_faultless};
+
+    ghost is_key = { IsKey };
+
+    ghost spelling = { decimal };
+
+    ghost is_fault = { IsTableKeyFault };
+
+    ghost one_key = { one_table_key };
+
+    ghost faultless = { table_key_faultless };
+
+    fn read_word(text: &[u8]) -> Result<Key, Why> {
+        match read_decimal(text, u128::MAX) {
+            Some(n) => Key::new(n).ok_or(Why::Key),
+            None => Err(Why::Number),
+        }
+    }
+
+    fn print_word(&self, out: &mut Vec<u8>) -> Result<(), AllocError> {
+        let n = self.get();
+        let mut buffer = Buffer::new();
+        if n <= u64::MAX as u128 {
+            out.extend_from_slice(buffer.format(n as u64).as_bytes())
+        } else {
+            out.extend_from_slice(buffer.format(n).as_bytes())
+        }
+    }
+}

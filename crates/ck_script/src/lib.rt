@@ -1,0 +1,17 @@
+//! Script files: what their lines say, and what is wrong with the first line that says nothing lawful.
+//! `specs/Grammar.antt` is the grammar, `docs/SCRIPTS.md` tells users of it.
+#![tactic(auto)]
+
+mod arguments;
+mod decimal;
+mod fault;
+mod key_word;
+mod line;
+mod parts;
+mod read;
+mod script_line;
+
+pub use fault::{ScriptError, ScriptFault, Why};
+pub use key_word::KeyWord;
+pub use line::{AskLine, Numbered, UpLine};
+pub use read::{read_queries, read_updates};

@@ -1,0 +1,86 @@
+ghost use Rattle.std.specs.Prelude.{MatchResult};
+ghost use Rattle.ck_script.specs.Grammar.{Says};
+ghost use Rattle.ck_script.specs.Text.{words};
+
+use ck_history::Update;
+
+use crate::arguments::{key_and_number, no_word, only_key};
+use crate::fault::Why;
+use crate::key_word::KeyWord;
+use crate::line::{AskLine, UpLine};
+use crate::parts::cut;
+
+/// What one line of a script says, for the scripts of one kind.
+pub trait ScriptLine: Copy {
+    ghost use Rattle.std.specs.Prelude.{◌≡◌, ℕ, List};
+    ghost use Rattle.ck_script.specs.declared.fault.Why.{Why};
+
+    /// What a script may say.
+    ghost is_taken: { Self → Type 0 };
+
+    /// The words of the one line that says it.
+    ghost spelling: { Self → List (List ℕ) };
+
+    /// What is wrong with the words of a line that says nothing lawful.
+    ghost is_fault: { List (List ℕ) → Why → Type 0 };
+
+    /// What the line says, or what is wrong with it.
+    fn read_line(line: &[u8]) -> Result<Self, Why>
+        ensures { MatchResult result (Says is_taken spelling line.now) (is_fault (words line.now)) };
+
+    /// The words of a lawful line have no fault.
+    ghost faultless: { (what : Self) (why : Why) → is_taken what → is_fault (spelling what) why → ⊥ };
+}
+
+impl<K: KeyWord> ScriptLine for UpLine<Update<K>> {
+    ghost use Rattle.ck_script.specs.Grammar.{IsUpdateLine, update_words, update_verbs, HasFault};
+    ghost use Rattle.ck_script.specs.Faultless.{update_faultless};
+
+    ghost is_taken = { IsUpdateLine K.is_key };
+
+    ghost spelling = { update_words K.spelling };
+
+    ghost is_fault = { HasFault K.is_key K.spelling K.is_fault update_verbs };
+
+    ghost faultless = { update_faultless K.is_key K.spelling K.is_fault K.faultless };
+
+    fn read_line(line: &[u8]) -> Result<UpLine<Update<K>>, Why> {
+        let (verb, rest) = cut(line, b' ');
+        if verb == b"set".as_slice() {
+            let (key, value) = key_and_number(rest)?;
+            Ok(UpLine::Call(Update::Set(key, value)))
+        } else if verb == b"put".as_slice() {
+            let (key, value) = key_and_number(rest)?;
+            Ok(UpLine::Call(Update::Put(key, value)))
+        } else if verb == b"del".as_slice() {
+            Ok(UpLine::Call(Update::Del(only_key(rest)?)))
+        } else if verb == b"tidy".as_slice() {
+            no_word(rest)?;
+            Ok(UpLine::Call(Update::Tidy))
+        } else {
+            Err(Why::Verb)
+        }
+    }
+}
+
+impl<K: KeyWord> ScriptLine for AskLine<K> {
+    ghost use Rattle.ck_script.specs.Grammar.{IsQueryLine, query_words, query_verbs, HasFault};
+    ghost use Rattle.ck_script.specs.Faultless.{query_faultless};
+
+    ghost is_taken = { IsQueryLine K.is_key };
+
+    ghost spelling = { query_words K.spelling };
+
+    ghost is_fault = { HasFault K.is_key K.spelling K.is_fault query_verbs };
+
+    ghost faultless = { query_faultless K.is_key K.spelling K.is_fault K.faultless };
+
+    fn read_line(line: &[u8]) -> Result<AskLine<K>, Why> {
+        let (verb, rest) = cut(line, b' ');
+        if verb == b"get".as_slice() {
+            Ok(AskLine::Ask(only_key(rest)?))
+        } else {
+            Err(Why::Verb)
+        }
+    }
+}
