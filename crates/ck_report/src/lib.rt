@@ -1,0 +1,8 @@
+//! Reports: the text of replies, answers and pairs. `specs/Text.antt` is the format, `docs/SCRIPTS.md` tells users of it.
+#![tactic(auto)]
+
+mod asked;
+mod print;
+
+pub use asked::Asked;
+pub use print::report_map;
