@@ -2,10 +2,10 @@ ghost use Rattle.std.specs.Prelude.{◌≡◌, ℕ, [], IfOk, OnOk, OnErr};
 ghost use Rattle.ck_history.specs.Map.{IsMap, find, step};
 ghost use Rattle.ck_history.specs.Page.{Page};
 
+use crate::pairs;
+use crate::update::{Reply, Update};
 use std::alloc::{AllocError, Global};
 use std::marker::Model;
-
-use crate::update::{Reply, Update};
 
 /// A map of at most `most` pairs, kept by one thread as a sorted list: the plain body of the map's definition.
 /// A look-up takes time in the logarithm of the number of pairs, a fresh key or a removal in their number.
@@ -41,7 +41,7 @@ impl<K: Ord + Copy> Book<K> {
     pub fn find(&self, key: &K) -> Option<u64>
         ensures { result ≡ find K.cmp self.now.pairs key.now }
     {
-        match place_of(&self.pairs, key) {
+        match pairs::place_of(&self.pairs, key) {
             Ok(at) => Some(self.pairs[at].1),
             Err(_) => None,
         }
@@ -62,9 +62,9 @@ impl<K: Ord + Copy> Book<K> {
         ensures err { OnErr result (self.new ≡ self.old) }
     {
         match u {
-            Update::Set(key, value) => self.set(key, value),
-            Update::Put(key, value) => self.put(key, value),
-            Update::Del(key) => Ok(self.remove(&key)),
+            Update::Set(key, value) => pairs::set(&mut self.pairs, self.most, key, value),
+            Update::Put(key, value) => pairs::put(&mut self.pairs, self.most, key, value),
+            Update::Del(key) => Ok(pairs::remove(&mut self.pairs, &key)),
             Update::Tidy => Ok(Reply::Tidied),
         }
     }
