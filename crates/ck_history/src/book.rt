@@ -69,3 +69,55 @@ impl<K: Ord + Copy> Book<K> {
         }
     }
 }
+
+#[cfg(test)]
+mod tests {
+    use super::*;
+    use std::test::Fail;
+
+    // each case: the most pairs, updates, their replies, the pairs at the end, and a look-up of 3
+    #[test]
+    fn answers_as_a_map_does(rt: HostRuntime) -> Result<(), Fail> {
+        use Reply::{Fresh, Full, Has, Missing, Tidied, Was};
+        use Update::{Del, Put, Set, Tidy};
+        let cases = [
+            (
+                9,
+                [Put(1, 5), Put(1, 6), Tidy],
+                [Fresh, Has(5), Tidied],
+                [(1, 5)].as_slice(),
+                None,
+            ),
+            (
+                9,
+                [Del(9), Set(9, 1), Set(9, 1)],
+                [Missing, Fresh, Was(1)],
+                [(9, 1)].as_slice(),
+                None,
+            ),
+            (
+                2,
+                [Set(7, 1), Put(3, 2), Set(5, 3)],
+                [Fresh, Fresh, Full],
+                [(3, 2), (7, 1)].as_slice(),
+                Some(2),
+            ),
+            (
+                1,
+                [Set(3, 8), Set(3, 9), Del(3)],
+                [Fresh, Was(8), Was(9)],
+                [].as_slice(),
+                None,
+            ),
+        ];
+        for (most, updates, replies, pairs, value) in cases {
+            let mut book: Book<u64> = Book::new(rt.alloc(), most);
+            for (update, reply) in updates.into_iter().zip(replies) {
+                assert_eq!(rt; book.apply(update)?, reply);
+            }
+            assert_eq!(rt; book.pairs(), pairs);
+            assert_eq!(rt; book.find(&3), value);
+        }
+        Ok(())
+    }
+}

@@ -4,6 +4,7 @@ ghost use Rattle.std.specs.Prelude.{◌≡◌, IfOk, MatchResult, OnOk, OnErr};
 ghost use Rattle.ck_history.specs.Map.{IsMap, add, step};
 ghost use Rattle.ck_history.specs.Place.{StandsAt, BelongsAt};
 ghost use Rattle.ck_history.specs.declared.update.Update.TheVariants.{Set, Put, Del};
+ghost use Rattle.ck_history.specs.declared.update.Reply.TheVariants.{Fresh};
 
 use crate::update::Reply;
 use std::alloc::AllocError;
@@ -30,6 +31,7 @@ pub fn add<K: Ord + Copy>(
     ensures reply { IfOk result (λ reply. reply ≡ (add K.cmp most pairs.old.items key value).1) }
     ensures ok { OnOk result (pairs.new.items ≡ (add K.cmp most pairs.old.items key value).0) }
     ensures err { OnErr result (pairs.new.items ≡ pairs.old.items) }
+    ensures memory { OnErr result ((add K.cmp most pairs.old.items key value).1 ≡ Fresh) }
 {
     if pairs.len() as u64 >= most {
         return Ok(Reply::Full);
@@ -38,7 +40,7 @@ pub fn add<K: Ord + Copy>(
     Ok(Reply::Fresh)
 }
 
-/// Makes a `Set`, in a map of at most `most` pairs. An `AllocError` changes nothing.
+/// Makes a `Set`, in a map of at most `most` pairs. An `AllocError` comes only where a pair is added, and changes nothing.
 pub fn set<K: Ord + Copy>(
     pairs: &mut Vec<(K, u64)>,
     most: u64,
@@ -50,6 +52,7 @@ pub fn set<K: Ord + Copy>(
     ensures reply { IfOk result (λ reply. reply ≡ (step K.cmp most pairs.old.items (Set key value)).1) }
     ensures ok { OnOk result (pairs.new.items ≡ (step K.cmp most pairs.old.items (Set key value)).0) }
     ensures err { OnErr result (pairs.new.items ≡ pairs.old.items) }
+    ensures memory { OnErr result ((step K.cmp most pairs.old.items (Set key value)).1 ≡ Fresh) }
 {
     match place_of(pairs, &key) {
         Ok(at) => {
@@ -61,7 +64,7 @@ pub fn set<K: Ord + Copy>(
     }
 }
 
-/// Makes a `Put`, in a map of at most `most` pairs. An `AllocError` changes nothing.
+/// Makes a `Put`, in a map of at most `most` pairs. An `AllocError` comes only where a pair is added, and changes nothing.
 pub fn put<K: Ord + Copy>(
     pairs: &mut Vec<(K, u64)>,
     most: u64,
@@ -73,6 +76,7 @@ pub fn put<K: Ord + Copy>(
     ensures reply { IfOk result (λ reply. reply ≡ (step K.cmp most pairs.old.items (Put key value)).1) }
     ensures ok { OnOk result (pairs.new.items ≡ (step K.cmp most pairs.old.items (Put key value)).0) }
     ensures err { OnErr result (pairs.new.items ≡ pairs.old.items) }
+    ensures memory { OnErr result ((step K.cmp most pairs.old.items (Put key value)).1 ≡ Fresh) }
 {
     match place_of(pairs, &key) {
         Ok(at) => Ok(Reply::Has(pairs[at].1)),

@@ -1,4 +1,5 @@
-use Rattle.std.proofs.Common.{◌≡◌, IfOk, OnOk, ap, sym, subst, arith}
+use Rattle.std.proofs.Common.{◌≡◌, IfOk, OnOk, OnErr, ap, sym, subst, arith}
+use Rattle.ck_history.specs.declared.update.Reply.TheVariants.{Fresh}
 use Rattle.ck_history.specs.Place.{StandsAt, BelongsAt}
 use Rattle.ck_history.proofs.Place.{found}
 use Rattle.ck_history.proofs.Made.{IsMap-set, made-set_over, made-set_new}
@@ -42,3 +43,9 @@ returns-in-Err-clause-ok g c =
     let belongs = subst (λ m. BelongsAt g.K.Ord.cmp c.args.key m c.in-Err.at) c.deref.ensures.value c.in-Err.ensures in
     let made = made-set_new g.met.K.Ord.total c.args.most _ _ _ c.requires belongs c.args.value in
     subst (λ after. OnOk c.add.result (c.add.new.pairs.items ≡ after.0)) (sym made) c.add.ensures.ok
+
+pub returns-in-Err-clause-memory : goal.returns-in-Err-clause-memory
+returns-in-Err-clause-memory g c =
+    let belongs = subst (λ m. BelongsAt g.K.Ord.cmp c.args.key m c.in-Err.at) c.deref.ensures.value c.in-Err.ensures in
+    let made = made-set_new g.met.K.Ord.total c.args.most _ _ _ c.requires belongs c.args.value in
+    subst (λ after. OnErr c.add.result (after.1 ≡ Fresh)) (sym made) c.add.ensures.memory
