@@ -2,3 +2,4 @@ pub mod Key
 pub mod Map
 pub mod Page
 pub mod Legal
+pub mod Place

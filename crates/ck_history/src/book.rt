@@ -2,10 +2,10 @@ ghost use Rattle.std.specs.Prelude.{◌≡◌, ℕ, [], IfOk, OnOk, OnErr};
 ghost use Rattle.ck_history.specs.Map.{IsMap, find, step};
 ghost use Rattle.ck_history.specs.Page.{Page};
 
+use crate::pairs;
+use crate::update::{Reply, Update};
 use std::alloc::{AllocError, Global};
 use std::marker::Model;
-
-use crate::update::{Reply, Update};
 
 /// A map of at most `most` pairs, kept by one thread as a sorted list: the plain body of the map's definition.
 /// A look-up takes time in the logarithm of the number of pairs, a fresh key or a removal in their number.
@@ -41,7 +41,7 @@ impl<K: Ord + Copy> Book<K> {
     pub fn find(&self, key: &K) -> Option<u64>
         ensures { result ≡ find K.cmp self.now.pairs key.now }
     {
-        match place_of(&self.pairs, key) {
+        match pairs::place_of(&self.pairs, key) {
             Ok(at) => Some(self.pairs[at].1),
             Err(_) => None,
         }
@@ -62,10 +62,62 @@ impl<K: Ord + Copy> Book<K> {
         ensures err { OnErr result (self.new ≡ self.old) }
     {
         match u {
-            Update::Set(key, value) => self.set(key, value),
-            Update::Put(key, value) => self.put(key, value),
-            Update::Del(key) => Ok(self.remove(&key)),
+            Update::Set(key, value) => pairs::set(&mut self.pairs, self.most, key, value),
+            Update::Put(key, value) => pairs::put(&mut self.pairs, self.most, key, value),
+            Update::Del(key) => Ok(pairs::remove(&mut self.pairs, &key)),
             Update::Tidy => Ok(Reply::Tidied),
         }
+    }
+}
+
+#[cfg(test)]
+mod tests {
+    use super::*;
+    use std::test::Fail;
+
+    // each case: the most pairs, updates, their replies, the pairs at the end, and a look-up of 3
+    #[test]
+    fn answers_as_a_map_does(rt: HostRuntime) -> Result<(), Fail> {
+        use Reply::{Fresh, Full, Has, Missing, Tidied, Was};
+        use Update::{Del, Put, Set, Tidy};
+        let cases = [
+            (
+                9,
+                [Put(1, 5), Put(1, 6), Tidy],
+                [Fresh, Has(5), Tidied],
+                [(1, 5)].as_slice(),
+                None,
+            ),
+            (
+                9,
+                [Del(9), Set(9, 1), Set(9, 1)],
+                [Missing, Fresh, Was(1)],
+                [(9, 1)].as_slice(),
+                None,
+            ),
+            (
+                2,
+                [Set(7, 1), Put(3, 2), Set(5, 3)],
+                [Fresh, Fresh, Full],
+                [(3, 2), (7, 1)].as_slice(),
+                Some(2),
+            ),
+            (
+                1,
+                [Set(3, 8), Set(3, 9), Del(3)],
+                [Fresh, Was(8), Was(9)],
+                [].as_slice(),
+                None,
+            ),
+        ];
+        for (most, updates, replies, pairs, value) in cases {
+            let mut book: Book<u64> = Book::new(rt.alloc(), most);
+            for (update, reply) in updates.into_iter().zip(replies) {
+                assert_eq!(rt; book.apply(update)?, reply);
+            }
+            assert_eq!(rt; book.pairs(), pairs);
+            assert_eq!(rt; book.find(&3), value);
+        }
+        Ok(())
     }
 }

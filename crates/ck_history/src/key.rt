@@ -43,3 +43,21 @@ impl Key {
         self.number
     }
 }
+
+#[cfg(test)]
+mod tests {
+    use super::*;
+
+    #[test]
+    fn takes_all_but_the_reserved_numbers(rt: HostRuntime) {
+        let cases = [
+            (0, None),
+            (1, Some(1)),
+            (u128::MAX - 1, Some(340282366920938463463374607431768211454)),
+            (u128::MAX, None),
+        ];
+        for (number, value) in cases {
+            assert_eq!(rt; Key::new(number).map(|key| key.get()), value);
+        }
+    }
+}

@@ -4,6 +4,7 @@
 
 mod book;
 mod key;
+mod pairs;
 mod update;
 
 pub use book::Book;

@@ -1,0 +1,4 @@
+mod Made
+pub mod Order
+mod Place
+pub mod Step
