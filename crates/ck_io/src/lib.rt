@@ -3,9 +3,16 @@
 #![tactic(auto)]
 
 mod gate;
+mod mem_shelf;
+mod mem_sink;
 mod shelf;
 mod sink;
 
 pub use gate::{Gate, OpenGate};
+pub use mem_shelf::MemShelf;
+pub use mem_sink::MemSink;
 pub use shelf::{Shelf, ShelfError};
 pub use sink::{Sink, SinkFailed, put_all};
+
+#[cfg(test)]
+mod tests;

@@ -1,9 +1,10 @@
 //! Where files come from.
 ghost use Rattle.std.specs.Prelude.{◌≡◌, ℕ, ◌≤◌, ◌<◌, ◌↔◌, List, length, Option, IfOk, IfErr, IfSome, vec_len};
+ghost use Rattle.ck_io.specs.declared.shelf.ShelfError.TheVariants.{Memory};
 ghost use Rattle.ck_io.specs.Faults.{Rose, NeverFall};
 ghost use Rattle.ck_io.specs.Shelf.{HasCause, IsSettled, IsTooLong};
 
-use std::alloc::Global;
+use std::alloc::{AllocError, Global};
 use std::error::Error;
 use std::fmt;
 
@@ -29,6 +30,14 @@ impl fmt::Display for ShelfError {
 }
 
 impl Error for ShelfError {}
+
+impl From<AllocError> for ShelfError {
+    ghost from_gives = { λ _ e. e ≡ Memory };
+
+    fn from(_: AllocError) -> Self {
+        ShelfError::Memory
+    }
+}
 
 /// Files under names. A name is the list of its bytes.
 pub trait Shelf {
