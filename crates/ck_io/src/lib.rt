@@ -1,0 +1,18 @@
+//! The outside as traits: where files come from, where the report goes, and what is called before
+//! each line of a script. With fakes in memory, and adapters over real files and standard output.
+#![tactic(auto)]
+
+mod gate;
+mod mem_shelf;
+mod mem_sink;
+mod shelf;
+mod sink;
+
+pub use gate::{Gate, OpenGate};
+pub use mem_shelf::MemShelf;
+pub use mem_sink::MemSink;
+pub use shelf::{Shelf, ShelfError};
+pub use sink::{Sink, SinkFailed, put_all};
+
+#[cfg(test)]
+mod tests;
