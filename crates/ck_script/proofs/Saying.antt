@@ -1,6 +1,7 @@
 -- What is said by a file that is read line by line.
-use Rattle.std.proofs.Common.{◌≡◌, ℕ, zero, suc, ◌+◌, ◌<◌, ◌≤◌, List, [], ◌∷◌, ◌++◌, length, refl, ap, arith, ◌∙◌, sym, subst, inl, inr, append_assoc, append-nil, add-zero}
+use Rattle.std.proofs.Common.{◌≡◌, ℕ, zero, suc, ◌+◌, ◌<◌, ◌≤◌, ◌⊎◌, List, [], ◌∷◌, ◌++◌, length, refl, ap, arith, ◌∙◌, sym, subst, inl, inr, append_assoc, append-nil, add-zero}
 use Rattle.std.proofs.lemmas.List.{length_push}
+use Rattle.std.specs.List.{AllByRecursion}
 use Rattle.ck_script.specs.declared.line.Numbered.{Numbered}
 use Rattle.ck_script.specs.declared.fault.Why.{Why}
 use Rattle.ck_script.specs.declared.fault.ScriptFault.{ScriptFault}
@@ -64,3 +65,27 @@ module _ {L : Type 0} (IsTaken : L → Type 0) (spelling : L → List (List ℕ)
     outside = λ what says. faultless what fault.why says.taken (subst (λ ws. HasFault ws fault.why) says.spelt faulty.why);
     why = faulty.why;
   }
+
+  -- what is said is taken
+  pub Say-taken : (n : ℕ) (ls : List (List ℕ)) (said : List (Numbered L)) → Say IsTaken spelling n ls said → AllByRecursion (λ l. IsTaken l.what) said
+  Say-taken n [] [] says = tt
+  Say-taken n [] (s ∷ said) says = absurd (cc)
+  Say-taken n (line ∷ ls) said (inl (silent, later)) = Say-taken (n + 1) ls said later
+  Say-taken n (line ∷ ls) said (inr (what, more, is, says, later)) =
+      subst (AllByRecursion (λ l. IsTaken l.what)) (sym is) (says.taken, Say-taken (n + 1) ls more later)
+
+  -- a line among lines that are said is silent or says something
+  Say-line : (n : ℕ) (before : List (List ℕ)) (line : List ℕ) (after : List (List ℕ)) (said : List (Numbered L)) → Say IsTaken spelling n (before ++ line ∷ after) said → IsSilent line ⊎ ((what : L) × Says IsTaken spelling line what)
+  Say-line n [] line after said (inl (silent, later)) = inl silent
+  Say-line n [] line after said (inr (what, more, is, says, later)) = inr (what, says)
+  Say-line n (x ∷ before) line after said (inl (silent, later)) = Say-line (n + 1) before line after said later
+  Say-line n (x ∷ before) line after said (inr (what, more, is, says, later)) = Say-line (n + 1) before line after more later
+
+  -- a file in the grammar has no first fault
+  pub no_first_fault : (HasFault : List (List ℕ) → Why → Type 0) (bytes : List ℕ) (said : List (Numbered L)) (fault : ScriptFault) → FileSays IsTaken spelling bytes said → IsFirstFault IsTaken spelling HasFault bytes fault → ⊥
+  no_first_fault HasFault bytes said fault says faulty =
+      let lines_say = subst (λ ls. Say IsTaken spelling 1 ls said) faulty.here says in
+      elim (Say-line 1 faulty.before faulty.faulty faulty.after said lines_say) [
+        | inl silent ↦ faulty.speaks silent
+        | inr (what, spoken) ↦ faulty.outside what spoken
+      ]

@@ -1,5 +1,6 @@
 pub mod Text
 pub mod Grammar
 pub mod Keys
+pub mod Script
 pub mod Reading
 pub mod Faultless

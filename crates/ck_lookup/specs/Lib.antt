@@ -1,0 +1,5 @@
+pub mod Words
+pub mod Headline
+pub mod Causes
+pub mod Running
+pub mod Outcomes

@@ -1,0 +1,11 @@
+//! The whole of `lookup`: from the words of the command line and the bytes of the files to the bytes of the report.
+#![tactic(auto)]
+
+mod lookup;
+mod outcome;
+mod report;
+mod table;
+mod words;
+
+pub use lookup::run;
+pub use outcome::{Outcome, line_of};

@@ -1,0 +1,112 @@
+ghost use Rattle.std.specs.Prelude.{◌≡◌, ◌≤◌, ◌↔◌, ℕ, List, [], ◌∷◌, map, Some, None, string_bytes, IfOk, IfErr};
+ghost use Rattle.ck_io.specs.Faults.{NeverFall};
+ghost use Rattle.ck_io.specs.Sink.{appended};
+ghost use Rattle.ck_lookup.specs.declared.outcome.Outcome.TheVariants.{Done, Usage};
+ghost use Rattle.ck_lookup.specs.Words.{Command, command_of};
+ghost use Rattle.ck_lookup.specs.Headline.{IsReport};
+ghost use Rattle.ck_lookup.specs.Causes.{Tells, Ends, IsClear, IsDoneOrNoMemory};
+
+use std::alloc::Global;
+use std::sync::Wait;
+use std::thread::Threads;
+
+use ck_io::{Gate, Shelf, Sink, put_all};
+
+use crate::outcome::Outcome;
+use crate::report::report_of;
+use crate::words::file_names;
+
+/// Does all that `lookup` does: reads the words, fetches the files that they name, checks them, makes the updates,
+/// answers the queries, and puts the report to the sink. The words are those after the program's name. Until the run
+/// has threads, all updates come before all queries, and nothing here waits.
+pub fn run<R: Threads + Wait + Sync, S: Shelf, K: Sink, G: Gate + Sync>(
+    _rt: &R,
+    alloc: Global,
+    words: &[String],
+    shelf: &mut S,
+    sink: &mut K,
+    gate: &G,
+) -> Outcome
+    // `Usage` exactly where the words are not of the form.
+    ensures usage { (result ≡ Usage) ↔ (command_of (map string_bytes words.now) ≡ None) }
+
+    // The headline. Where the run is done, and the shelf tells the bytes of the files, what the sink took in this run
+    // is a report of these bytes.
+    ensures report { (c : Command) (update_file : List ℕ) (query_files : List (List ℕ))
+        → command_of (map string_bytes words.now) ≡ Some c
+        → Tells (S.held shelf.old) c update_file query_files
+        → result ≡ Done
+        → (text : List ℕ) × IsReport update_file query_files text × (K.taken sink.new ≡ appended (K.taken sink.old) text) }
+
+    // Every other outcome has its cause.
+    ensures ends { (c : Command) → command_of (map string_bytes words.now) ≡ Some c
+        → Ends (record {
+            held = S.held shelf.old;
+            shelf_before = S.faults shelf.old;
+            shelf_after = S.faults shelf.new;
+            taken_before = K.taken sink.old;
+            taken_after = K.taken sink.new;
+            sink_before = K.faults sink.old;
+            sink_after = K.faults sink.new
+        }) c result }
+
+    // Lawful files, and no fault of shelf or sink, give the whole report, unless memory is wanting.
+    ensures complete { (c : Command) (update_file : List ℕ) (query_files : List (List ℕ))
+        → command_of (map string_bytes words.now) ≡ Some c
+        → IsClear (record {
+            held = S.held shelf.old;
+            shelf_before = S.faults shelf.old;
+            shelf_after = S.faults shelf.new;
+            taken_before = K.taken sink.old;
+            taken_after = K.taken sink.new;
+            sink_before = K.faults sink.old;
+            sink_after = K.faults sink.new
+        }) c update_file query_files
+        → IsDoneOrNoMemory result }
+
+    // Words that ask for no run leave the sink as it was. The shelf holds what it held, and no count of faults falls.
+    ensures unasked { result ≡ Usage → K.taken sink.new ≡ K.taken sink.old }
+    ensures held { S.held shelf.new ≡ S.held shelf.old }
+    ensures shelf_lasting { NeverFall (S.faults shelf.old) (S.faults shelf.new) }
+    ensures sink_lasting { K.faults sink.old ≤ K.faults sink.new }
+{
+    match file_names(words) {
+        None => Outcome::Usage,
+        Some((updates, query)) => run_table(alloc, updates, query, shelf, sink, gate),
+    }
+}
+
+// A run of the command that names these two files.
+fn run_table<S: Shelf, K: Sink, G: Gate>(
+    alloc: Global,
+    updates: &str,
+    query: &str,
+    shelf: &mut S,
+    sink: &mut K,
+    gate: &G,
+) -> Outcome
+    ensures report { (update_file : List ℕ) (query_files : List (List ℕ))
+        → Tells (S.held shelf.old) (record { updates = updates.now; queries = query.now ∷ [] }) update_file query_files
+        → result ≡ Done
+        → (text : List ℕ) × IsReport update_file query_files text × (K.taken sink.new ≡ appended (K.taken sink.old) text) }
+    ensures ends { Ends (record {
+            held = S.held shelf.old;
+            shelf_before = S.faults shelf.old;
+            shelf_after = S.faults shelf.new;
+            taken_before = K.taken sink.old;
+            taken_after = K.taken sink.new;
+            sink_before = K.faults sink.old;
+            sink_after = K.faults sink.new
+        }) (record { updates = updates.now; queries = query.now ∷ [] }) result }
+    ensures held { S.held shelf.new ≡ S.held shelf.old }
+    ensures shelf_lasting { NeverFall (S.faults shelf.old) (S.faults shelf.new) }
+    ensures sink_lasting { K.faults sink.old ≤ K.faults sink.new }
+{
+    match report_of(alloc, updates, query, shelf, gate) {
+        Err(refusal) => refusal,
+        Ok(text) => match put_all(sink, &text) {
+            Ok(()) => Outcome::Done,
+            Err(_) => Outcome::WriteFault,
+        },
+    }
+}

@@ -1,0 +1,92 @@
+ghost use Rattle.std.specs.Prelude.{◌≡◌, IfOk, string_bytes};
+ghost use Rattle.ck_lookup.specs.Outcomes.{text_of, why_text};
+
+use std::alloc::{AllocError, Global};
+
+use ck_script::Why;
+
+/// How a run ended. File 0 is the update file, file f the query file with the number f.
+#[derive(Clone, Copy, PartialEq, Eq, Debug)]
+pub enum Outcome {
+    /// The sink took the whole report.
+    Done,
+    /// The words name no run.
+    Usage,
+    /// A file couldn't be read.
+    ReadFault { file: u64 },
+    /// A file's first line outside the grammar.
+    BadScript { file: u64, line: u64, why: Why },
+    /// A file past a limit.
+    TooLarge { file: u64 },
+    /// The sink failed.
+    WriteFault,
+    /// There was no memory.
+    NoMemory,
+}
+
+impl Outcome {
+    ghost use Rattle.std.specs.Prelude.{◌≡◌};
+    ghost use Rattle.ck_lookup.specs.Outcomes.{status_of};
+
+    /// The exit status of the process.
+    pub fn status(&self) -> u8
+        ensures { result ≡ status_of self.now }
+    {
+        match self {
+            Outcome::Done => 0,
+            Outcome::Usage => 2,
+            Outcome::ReadFault { .. } => 3,
+            Outcome::BadScript { .. } => 4,
+            Outcome::TooLarge { .. } => 5,
+            Outcome::WriteFault => 7,
+            Outcome::NoMemory => 9,
+        }
+    }
+}
+
+/// The line that tells a user of the outcome, without its line feed. It is empty after a whole report.
+pub fn line_of(alloc: Global, outcome: &Outcome) -> Result<String, AllocError>
+    ensures { IfOk result (λ line. string_bytes line ≡ text_of outcome.now) }
+{
+    match *outcome {
+        Outcome::Done => Ok(String::new(alloc)),
+        Outcome::Usage => String::from_str(
+            alloc,
+            "usage: lookup table|names|list [--seed N] [--workers N] [--fold] UPDATES QUERY..",
+        ),
+        Outcome::ReadFault { file } => format!(in alloc; "lookup: cannot read file {file}"),
+        Outcome::BadScript { file, line, why } => {
+            let why = word_for(why);
+            format!(in alloc; "lookup: file {file} line {line}: {why}")
+        }
+        Outcome::TooLarge { file } => format!(in alloc; "lookup: file {file} is too large"),
+        Outcome::WriteFault => String::from_str(alloc, "lookup: cannot write"),
+        Outcome::NoMemory => String::from_str(alloc, "lookup: out of memory"),
+    }
+}
+
+// The word for what is wrong with a line.
+fn word_for(why: Why) -> &'static str
+    ensures { result.now ≡ why_text why }
+{
+    match why {
+        Why::Verb => "verb",
+        Why::Shape => "shape",
+        Why::Number => "number",
+        Why::Key => "key",
+        Why::Beyond => "beyond",
+        Why::Many => "many",
+        Why::Circle => "circle",
+    }
+}
+
+impl From<AllocError> for Outcome {
+    ghost use Rattle.std.specs.Prelude.{◌≡◌};
+    ghost use Rattle.ck_lookup.specs.declared.outcome.Outcome.TheVariants.{NoMemory};
+
+    ghost from_gives = { λ _ outcome. outcome ≡ NoMemory };
+
+    fn from(_: AllocError) -> Outcome {
+        Outcome::NoMemory
+    }
+}
