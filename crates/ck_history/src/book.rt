@@ -1,6 +1,7 @@
 ghost use Rattle.std.specs.Prelude.{◌≡◌, ℕ, [], IfOk, OnOk, OnErr};
 ghost use Rattle.ck_history.specs.Map.{IsMap, find, step};
 ghost use Rattle.ck_history.specs.Page.{Page};
+ghost use Rattle.ck_history.specs.declared.update.Reply.TheVariants.{Fresh};
 
 use crate::pairs;
 use crate::update::{Reply, Update};
@@ -55,11 +56,12 @@ impl<K: Ord + Copy> Book<K> {
         &self.pairs
     }
 
-    /// Makes one update, and answers its reply. An `AllocError` changes nothing.
+    /// Makes one update, and answers its reply. An `AllocError` comes only where a pair would be added, and changes nothing.
     pub fn apply(&mut self, u: Update<K>) -> Result<Reply, AllocError>
         ensures reply { IfOk result (λ reply. reply ≡ (step K.cmp self.old.most self.old.pairs u).1) }
         ensures ok { OnOk result (self.new ≡ record self.old { pairs = (step K.cmp self.old.most self.old.pairs u).0 }) }
         ensures err { OnErr result (self.new ≡ self.old) }
+        ensures memory { OnErr result ((step K.cmp self.old.most self.old.pairs u).1 ≡ Fresh) }
     {
         match u {
             Update::Set(key, value) => pairs::set(&mut self.pairs, self.most, key, value),
