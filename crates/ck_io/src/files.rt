@@ -45,7 +45,12 @@ impl<'a, R: Files> FileShelf<'a, R> {
 
 /// Reads all that a reader has left, if that is at most `limit` bytes: it stops at one byte more. `size` is how many
 /// bytes to make room for at once.
-fn read_all<F: Read>(file: &mut F, alloc: Global, size: u64, limit: u64) -> Result<Vec<u8>, ShelfError>
+pub(crate) fn read_all<F: Read>(
+    file: &mut F,
+    alloc: Global,
+    size: u64,
+    limit: u64,
+) -> Result<Vec<u8>, ShelfError>
     ensures within { IfOk result (λ bytes. vec_len bytes ≤ limit) }
     ensures all { IfOk result (λ bytes. IfSome (F.remaining file.old) (λ told. bytes.items ≡ told)) }
     // a read that fails is a fault that rose

@@ -9,6 +9,7 @@ mod mem_sink;
 mod shelf;
 mod sink;
 mod stdout;
+mod steady;
 
 pub use files::FileShelf;
 pub use gate::{Gate, OpenGate};
@@ -17,6 +18,7 @@ pub use mem_sink::MemSink;
 pub use shelf::{Shelf, ShelfError};
 pub use sink::{Sink, SinkFailed, put_all};
 pub use stdout::StdSink;
+pub use steady::{SteadyShelf, SteadySink};
 
 #[cfg(test)]
 mod tests;
