@@ -1,3 +1,5 @@
+ghost use Rattle.std.specs.Prelude.{◌≤◌};
+
 use crate::files::read_all;
 use crate::{
     FileShelf, Gate, MemShelf, MemSink, OpenGate, Shelf, ShelfError, Sink, SinkFailed, StdSink,
@@ -12,10 +14,15 @@ use std::{fs, io};
 
 const TEXT: &[u8] = b"u 1 fresh\nq 1 1 7 = 10\nt 7 = 10\nend\n";
 
-// A name, a limit, and what a fetch answers: the length of the bytes or the error.
+const FAILED: Result<&'static [u8], ShelfError> = Err(ShelfError::Failed);
+
+// A name, a limit, and what a fetch answers.
 type Fetch = (&'static str, u64, Result<&'static [u8], ShelfError>);
 
-// Makes the fetches in turn, and gives the place of the first that answers otherwise, or how many there are.
+// A piece, and what a put answers.
+type Put = (&'static [u8], Result<u64, SinkFailed>);
+
+// The place of the first fetch that answers otherwise, or how many there are.
 fn fetches<S: Shelf>(shelf: &mut S, alloc: Global, calls: &[Fetch]) -> usize {
     for (at, (name, limit, wanted)) in calls.iter().enumerate() {
         let right = match (shelf.fetch(alloc, name, *limit), wanted) {
@@ -24,6 +31,16 @@ fn fetches<S: Shelf>(shelf: &mut S, alloc: Global, calls: &[Fetch]) -> usize {
             _ => false,
         };
         if !right {
+            return at;
+        }
+    }
+    calls.len()
+}
+
+// The same for puts.
+fn puts<K: Sink>(sink: &mut K, calls: &[Put]) -> usize {
+    for (at, (piece, wanted)) in calls.iter().enumerate() {
+        if sink.put(piece) != *wanted {
             return at;
         }
     }
@@ -41,107 +58,134 @@ fn some_files(alloc: Global) -> Result<Vec<(String, Vec<u8>)>, AllocError> {
     Ok(files)
 }
 
-#[test]
-fn shelves_in_memory(rt: HostRuntime) -> Result<(), Fail> {
-    let alloc = rt.alloc();
-    let failed = Err(ShelfError::Failed);
-    let mut shelf = MemShelf::new(some_files(alloc)?, vec![in alloc; 3, 9]?);
-    let calls: [Fetch; 9] = [
-        ("u", 8, Ok(b"set 7 10")),
-        ("q", 5, Ok(b"get 7")),
-        ("u", 8, failed),
-        ("u", 7, Err(ShelfError::TooLong { bytes: 8 })),
-        ("v", 8, failed),
-        ("", 8, failed),
-        ("q", 0, Err(ShelfError::TooLong { bytes: 1 })),
-        ("q", u64::MAX, Ok(b"get 7")),
-        ("q", 5, failed),
-    ];
-    assert_eq!(rt; fetches(&mut shelf, alloc, &calls), calls.len());
+const OF_MEMORY: &[Fetch] = &[
+    ("u", 8, Ok(b"set 7 10")),
+    ("q", 5, Ok(b"get 7")),
+    ("u", 8, FAILED),
+    ("u", 7, Err(ShelfError::TooLong { bytes: 8 })),
+    ("v", 8, FAILED),
+    ("", 8, FAILED),
+    ("q", 0, Err(ShelfError::TooLong { bytes: 1 })),
+    ("q", u64::MAX, Ok(b"get 7")),
+    ("q", 5, FAILED),
+];
 
-    let mut steady = SteadyShelf::new(some_files(alloc)?);
-    let calls: [Fetch; 3] = [
-        ("u", 8, Ok(b"set 7 10")),
-        ("u", 7, Err(ShelfError::TooLong { bytes: 8 })),
-        ("v", 0, Ok(b"")),
-    ];
-    assert_eq!(rt; fetches(&mut steady, alloc, &calls), calls.len());
+#[test]
+fn a_shelf_in_memory(rt: HostRuntime) -> Result<(), Fail> {
+    let alloc = rt.alloc();
+    let mut shelf = MemShelf::new(some_files(alloc)?, vec![in alloc; 3, 9]?);
+    assert_eq!(rt; fetches(&mut shelf, alloc, OF_MEMORY), OF_MEMORY.len());
+    Ok(())
+}
+
+const OF_STEADY: &[Fetch] = &[
+    ("u", 8, Ok(b"set 7 10")),
+    ("u", 7, Err(ShelfError::TooLong { bytes: 8 })),
+    ("v", 0, Ok(b"")),
+];
+
+#[test]
+fn a_steady_shelf(rt: HostRuntime) -> Result<(), Fail> {
+    let alloc = rt.alloc();
+    let mut shelf = SteadyShelf::new(some_files(alloc)?);
+    assert_eq!(rt; fetches(&mut shelf, alloc, OF_STEADY), OF_STEADY.len());
+    Ok(())
+}
+
+fn sink_of(alloc: Global, room: u64, most: u64, fails: u64) -> Result<MemSink, AllocError>
+    requires { 1 ≤ most }
+{
+    let mut numbers = Vec::new(alloc);
+    numbers.push(fails)?;
+    MemSink::new(alloc, room, most, numbers)
+}
+
+const UNTIL_FAILURE: &[Put] = &[(TEXT, Ok(5)), (TEXT, Err(SinkFailed)), (b"ox", Ok(2))];
+
+const UNTIL_FULL: &[Put] = &[
+    (TEXT, Ok(5)),
+    (b"resh", Ok(2)),
+    (b"", Ok(0)),
+    (b"sh", Err(SinkFailed)),
+];
+
+#[test]
+fn a_sink_in_memory(rt: HostRuntime) -> Result<(), Fail> {
+    let alloc = rt.alloc();
+    let mut sink = sink_of(alloc, 100, 5, 2)?;
+    assert_eq!(rt; puts(&mut sink, UNTIL_FAILURE), UNTIL_FAILURE.len());
+    assert_eq!(rt; sink.bytes(), b"u 1 fox".as_slice());
+
+    let mut full = sink_of(alloc, 7, 5, 0)?;
+    assert_eq!(rt; puts(&mut full, UNTIL_FULL), UNTIL_FULL.len());
+    assert_eq!(rt; full.bytes(), b"u 1 fre".as_slice());
     Ok(())
 }
 
 #[test]
-fn sinks_in_memory(rt: HostRuntime) -> Result<(), Fail> {
-    let alloc = rt.alloc();
-    let mut sink = MemSink::new(alloc, 100, 5, vec![in alloc; 2]?)?;
-    assert_eq!(rt; sink.put(TEXT), Ok(5));
-    assert_eq!(rt; sink.put(TEXT), Err(SinkFailed));
-    assert_eq!(rt; sink.bytes(), b"u 1 f".as_slice());
-    assert_eq!(rt; sink.put(b"ox"), Ok(2));
-    assert_eq!(rt; sink.bytes(), b"u 1 fox".as_slice());
+fn a_steady_sink(rt: HostRuntime) {
+    let mut sink = SteadySink::new();
+    assert_eq!(rt; puts(&mut sink, &[(TEXT, Ok(36)), (b"", Ok(0))]), 2);
+    assert_eq!(rt; sink.bytes(), 36);
+}
 
-    let mut full = MemSink::new(alloc, 7, 5, vec![in alloc]?)?;
-    assert_eq!(rt; full.put(TEXT), Ok(5));
-    assert_eq!(rt; full.put(&TEXT[5..]), Ok(2));
-    assert_eq!(rt; full.put(b""), Ok(0));
-    assert_eq!(rt; full.put(&TEXT[7..]), Err(SinkFailed));
-    assert_eq!(rt; full.bytes(), b"u 1 fre".as_slice());
-
-    let mut steady = SteadySink::new();
-    assert_eq!(rt; steady.put(TEXT), Ok(36));
-    assert_eq!(rt; steady.bytes(), 36);
-    Ok(())
+// What a sink has after the whole text was put to it, and whether it took all.
+fn after_all(mut sink: MemSink, bytes: &[u8], wanted: &[u8]) -> (bool, bool) {
+    let all = put_all(&mut sink, bytes).is_ok();
+    (all, sink.bytes() == wanted)
 }
 
 #[test]
 fn a_whole_text(rt: HostRuntime) -> Result<(), Fail> {
     let alloc = rt.alloc();
-    let mut sink = MemSink::new(alloc, 100, 5, vec![in alloc]?)?;
-    assert_eq!(rt; put_all(&mut sink, TEXT), Ok(()));
-    assert_eq!(rt; sink.bytes(), TEXT);
-
-    let mut failing = MemSink::new(alloc, 100, 5, vec![in alloc; 3]?)?;
-    assert_eq!(rt; put_all(&mut failing, TEXT), Err(SinkFailed));
-    assert_eq!(rt; failing.bytes(), b"u 1 fresh\n".as_slice());
+    assert_eq!(rt;
+        after_all(sink_of(alloc, 100, 5, 0)?, TEXT, TEXT),
+        (true, true)
+    );
+    assert_eq!(rt;
+        after_all(sink_of(alloc, 100, 5, 3)?, TEXT, b"u 1 fresh\n"),
+        (false, true)
+    );
 
     // 65,536 bytes at a time, and then the rest
     let long = vec![in alloc; 7; 131_073]?;
-    let mut whole = MemSink::new(alloc, 131_073, u64::MAX, vec![in alloc; 4]?)?;
-    assert_eq!(rt; put_all(&mut whole, &long), Ok(()));
-    assert_eq!(rt; whole.bytes(), long.as_slice());
-    assert_eq!(rt; whole.put(b""), Err(SinkFailed));
+    let two_pieces = vec![in alloc; 7; 131_072]?;
+    let all = after_all(sink_of(alloc, 131_073, u64::MAX, 4)?, &long, &long);
+    assert_eq!(rt; all, (true, true));
+    let cut = after_all(sink_of(alloc, 131_073, u64::MAX, 3)?, &long, &two_pieces);
+    assert_eq!(rt; cut, (false, true));
+    Ok(())
+}
+
+const OF_FILES: &[Fetch] = &[
+    ("short.txt", 9, Ok(b"set 7 10\n")),
+    ("short.txt", u64::MAX, Ok(b"set 7 10\n")),
+    ("short.txt", 8, Err(ShelfError::TooLong { bytes: 9 })),
+    ("empty.txt", 0, Ok(b"")),
+    ("missing.txt", 9, FAILED),
+    (".", 9, FAILED),
+    ("", 9, FAILED),
+];
+
+#[test]
+fn real_files(rt: HostRuntime) -> Result<(), Fail> {
+    fs::write(&rt, "short.txt", "set 7 10\n")?;
+    fs::write(&rt, "empty.txt", "")?;
+    let mut shelf = FileShelf::new(&rt);
+    assert_eq!(rt; fetches(&mut shelf, rt.alloc(), OF_FILES), OF_FILES.len());
     Ok(())
 }
 
 #[test]
-fn real_files(rt: HostRuntime) -> Result<(), Fail> {
+fn a_long_file(rt: HostRuntime) -> Result<(), Fail> {
     let alloc = rt.alloc();
-    fs::write(&rt, "short.txt", "set 7 10\n")?;
-    fs::write(&rt, "empty.txt", "")?;
-    let mut shelf = FileShelf::new(&rt);
-    let failed = Err(ShelfError::Failed);
-    let calls: [Fetch; 7] = [
-        ("short.txt", 9, Ok(b"set 7 10\n")),
-        ("short.txt", u64::MAX, Ok(b"set 7 10\n")),
-        ("short.txt", 8, Err(ShelfError::TooLong { bytes: 9 })),
-        ("empty.txt", 0, Ok(b"")),
-        ("missing.txt", 9, failed),
-        (".", 9, failed),
-        ("", 9, failed),
-    ];
-    assert_eq!(rt; fetches(&mut shelf, alloc, &calls), calls.len());
-
-    // several reads
     let long = vec![in alloc; 7; 131_073]?;
     fs::write(&rt, "long.txt", &long)?;
+    let mut shelf = FileShelf::new(&rt);
     let bytes = shelf.fetch(alloc, "long.txt", 131_073).ok().ok_or("long")?;
     assert!(rt; bytes.as_slice() == long.as_slice());
-    assert_eq!(rt;
-        shelf.fetch(alloc, "long.txt", 131_072).err(),
-        Some(ShelfError::TooLong { bytes: 131_073 })
-    );
-    for name in ["short.txt", "empty.txt", "long.txt"] {
-        fs::remove_file(&rt, name)?;
-    }
+    let longer = shelf.fetch(alloc, "long.txt", 131_072).err();
+    assert_eq!(rt; longer, Some(ShelfError::TooLong { bytes: 131_073 }));
     Ok(())
 }
 
@@ -159,59 +203,34 @@ impl Read for Pieces {
         if read == 0 || read == 2 {
             return Err(Error::from(ErrorKind::Interrupted));
         }
-        if read > 3 {
-            return if self.ends {
-                Ok(0)
-            } else {
-                Err(Error::from(ErrorKind::TimedOut))
-            };
+        if read > 3 && !self.ends {
+            return Err(Error::from(ErrorKind::TimedOut));
         }
-        if let Some(first) = buf.first_mut() {
-            *first = read;
-            return Ok(1);
+        match buf.first_mut() {
+            Some(first) if read <= 3 => {
+                *first = read;
+                Ok(1)
+            }
+            _ => Ok(0),
         }
-        Ok(0)
     }
 }
 
+// The length of all that the pieces give within a limit, or the error.
+fn length_of(alloc: Global, ends: bool, limit: u64) -> Result<usize, ShelfError> {
+    let bytes = read_all(&mut Pieces { reads: 0, ends }, alloc, 0, limit)?;
+    Ok(bytes.len())
+}
+
 #[test]
-fn a_reader_that_fails(rt: HostRuntime) -> Result<(), Fail> {
+fn a_reader_that_fails(rt: HostRuntime) {
     let alloc = rt.alloc();
-    let bytes = read_all(
-        &mut Pieces {
-            reads: 0,
-            ends: true,
-        },
-        alloc,
-        0,
-        2,
-    )
-    .ok()
-    .ok_or("ends")?;
-    assert_eq!(rt; bytes.as_slice(), [1, 3].as_slice());
-    let longer = read_all(
-        &mut Pieces {
-            reads: 0,
-            ends: true,
-        },
-        alloc,
-        9,
-        1,
-    )
-    .err();
-    assert_eq!(rt; longer, Some(ShelfError::TooLong { bytes: 2 }));
-    let failed = read_all(
-        &mut Pieces {
-            reads: 0,
-            ends: false,
-        },
-        alloc,
-        0,
-        2,
-    )
-    .err();
-    assert_eq!(rt; failed, Some(ShelfError::Failed));
-    Ok(())
+    assert_eq!(rt; length_of(alloc, true, 2), Ok(2));
+    assert_eq!(rt;
+        length_of(alloc, true, 1),
+        Err(ShelfError::TooLong { bytes: 2 })
+    );
+    assert_eq!(rt; length_of(alloc, false, 2), Err(ShelfError::Failed));
 }
 
 // An output that is interrupted, takes one byte, fails, and then takes nothing.
@@ -245,6 +264,13 @@ impl Print for Broken {
     }
 }
 
+const TO_BROKEN: &[Put] = &[
+    (TEXT, Ok(1)),
+    (TEXT, Err(SinkFailed)),
+    (TEXT, Err(SinkFailed)),
+    (b"", Ok(0)),
+];
+
 #[test]
 fn standard_output(rt: HostRuntime) {
     assert_eq!(rt;
@@ -255,11 +281,10 @@ fn standard_output(rt: HostRuntime) {
     let broken = Broken {
         writes: Cell::new(0),
     };
-    let mut sink = StdSink::new(&broken);
-    assert_eq!(rt; sink.put(TEXT), Ok(1));
-    assert_eq!(rt; sink.put(TEXT), Err(SinkFailed));
-    assert_eq!(rt; sink.put(TEXT), Err(SinkFailed));
-    assert_eq!(rt; sink.put(b""), Ok(0));
+    assert_eq!(rt;
+        puts(&mut StdSink::new(&broken), TO_BROKEN),
+        TO_BROKEN.len()
+    );
 }
 
 // Threads may share the gate.
