@@ -1,5 +1,5 @@
 -- Files by name.
-use Rattle.std.proofs.Common.{◌≡◌, ℕ, zero, suc, subst, ◌+◌, ◌≤◌, ◌<◌, Bool, true, false, cond, not, List, [], ◌∷◌, map, length, Option, Some, None, option_map, position, unwrap_or, nat_lt, is_none, String, Vec, ◌==◌, slice_get, slice_index, slice_set, get_or, replicate, take, ◌++◌, ◌-◌, ◌^◌, min, Result, Ok, Err, length-append, ◌||◌, IsTrue, IsFalse, refl, ap, sym, ◌∙◌, arith, bytes_eq}
+use Rattle.std.proofs.Common.{◌≡◌, ℕ, zero, suc, subst, ◌+◌, ◌≤◌, ◌<◌, Bool, true, false, cond, not, List, [], ◌∷◌, map, length, Some, None, option_map, position, unwrap_or, nat_lt, is_none, String, Vec, ◌==◌, slice_get, slice_index, slice_set, get_or, replicate, take, ◌++◌, ◌^◌, min, Result, Ok, Err, length-append, ◌||◌, IsTrue, IsFalse, refl, ap, sym, ◌∙◌, arith, bytes_eq}
 use Rattle.std.specs.List.{prefix_len, position_or_len, list_any}
 use Rattle.std.specs.Global.{Global}
 use Rattle.std.proofs.lemmas.List.Sums.{prefix_len-le-length}
@@ -11,7 +11,7 @@ use Rattle.std.proofs.lemmas.List.{get_or-replicate, length-map, length-take, le
 use Rattle.ck_io.specs.declared.shelf.ShelfError.{ShelfError}
 use Rattle.ck_io.specs.declared.shelf.ShelfError.TheVariants.{Failed, TooLong, Memory}
 use Rattle.ck_io.specs.Faults.{next, NeverFall}
-use Rattle.ck_io.specs.MemShelf.{ShelfState, contents, place, bytes_under, padded, raised, faults_of, shelf_after, fetch_fails}
+use Rattle.ck_io.specs.MemShelf.{ShelfState, contents, place, bytes_under, padded, faults_of, shelf_after, fetch_fails}
 
 -- how many pass from the front on, among the images
 pub prefix_len-map : {X Y : Type 0} (f : X → Y) (p : Y → Bool) (xs : List X) → prefix_len p (map f xs) ≡ prefix_len (λ x. p (f x)) xs
@@ -112,6 +112,6 @@ zeros n k = grind (arith, common_steps, get_or-replicate)
 -- before the first fetch each count is 0
 pub zero-padded : (n at : ℕ) → slice_index (padded n [] ++ 0 ∷ []) at ≡ 0
 zero-padded n at =
-  let none : padded n [] ≡ replicate n 0 =
+    let none : padded n [] ≡ replicate n 0 =
     ap (λ k. take k (replicate n 0)) (sym (length-replicate n 0)) ∙ take-length (replicate n 0) in
-  ap (λ xs. slice_index (xs ++ 0 ∷ []) at) none ∙ zeros n at
+    ap (λ xs. slice_index (xs ++ 0 ∷ []) at) none ∙ zeros n at

@@ -1,5 +1,5 @@
 -- A shelf in memory.
-use Rattle.std.specs.Prelude.{◌≡◌, ℕ, List, Bool, true, false, ◌||◌, ◌==◌, is_none, IsTrue, IsFalse, ⊤, Option, option_map, Some, Result, Ok, Err, ◌+◌, ◌<◌, ◌≤◌, slice_get, slice_index, slice_set, length, take, replicate, ◌++◌, bytes_eq, map, String, Vec, string_bytes}
+use Rattle.std.specs.Prelude.{◌≡◌, ℕ, List, Bool, ◌||◌, ◌==◌, is_none, IsTrue, IsFalse, ⊤, Option, option_map, Some, Result, Ok, Err, ◌+◌, ◌<◌, ◌≤◌, slice_get, slice_index, slice_set, length, take, replicate, ◌++◌, bytes_eq, map, String, Vec, string_bytes, unwrap_or, []}
 use Rattle.std.specs.Global.{Global}
 use Rattle.std.specs.List.{position_or_len, list_any}
 use Rattle.ck_io.specs.declared.shelf.ShelfError.{ShelfError}
@@ -28,6 +28,10 @@ place files name = position_or_len (λ file. bytes_eq file.0 name) files
 -- the bytes of the first file of a name
 abbrev pub bytes_under : List (List ℕ × List ℕ) → List ℕ → Option (List ℕ)
 bytes_under files name = option_map (λ file. file.1) (slice_get files (place files name))
+
+-- the bytes of the first file of a name, or no bytes where none has it
+abbrev pub bytes_or_none : List (List ℕ × List ℕ) → List ℕ → List ℕ
+bytes_or_none files name = unwrap_or (bytes_under files name) []
 
 -- the faults of a name
 abbrev pub faults_of : ShelfState → List ℕ → ℕ

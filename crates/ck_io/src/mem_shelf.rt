@@ -42,10 +42,10 @@ impl MemShelf {
     /// name. A name that isn't held fails and raises its count too; all such names share one count.
     pub fn new(files: Vec<(String, Vec<u8>)>, fails: Vec<u64>) -> MemShelf
         ensures made { result ≡ record {
-            files = contents files.items;
-            fails = fails.items;
-            calls = 0;
-            counts = replicate (length files.items) 0 ++ 0 ∷ []
+          files = contents files.items;
+          fails = fails.items;
+          calls = 0;
+          counts = replicate (length files.items) 0 ++ 0 ∷ [];
         } }
         ensures unfailed { (name : List ℕ) → faults_of result name ≡ 0 }
     {
@@ -68,7 +68,7 @@ fn first_of(files: &[(String, Vec<u8>)], name: &str) -> Option<usize>
 }
 
 /// The place of the first file of a name, or the number of files.
-fn place_of(files: &[(String, Vec<u8>)], name: &str) -> usize
+pub(crate) fn place_of(files: &[(String, Vec<u8>)], name: &str) -> usize
     ensures place { result ≡ place (contents files.now) name.now }
     ensures within { result ≤ length files.now }
 {

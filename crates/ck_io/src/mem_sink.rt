@@ -82,17 +82,12 @@ impl Sink for MemSink {
     ghost faults = { λ s. s.faults };
 
     fn put(&mut self, piece: &[u8]) -> Result<u64, SinkFailed>
-        ensures appends { IfOk result (λ n. Some self.new.taken ≡ appended (Some self.old.taken) (take n piece.now)) }
-        ensures within { IfOk result (λ n. n ≤ length piece.now) }
-        ensures some { IfOk result (λ n. 0 < length piece.now → 0 < n) }
-        ensures cause { OnErr result (Rose self.old.faults self.new.faults) }
-        ensures nothing { OnErr result (Some self.new.taken ≡ Some self.old.taken) }
-        ensures lasting { self.old.faults ≤ self.new.faults }
-
         // Every answer, and the sink after it.
         ensures fails { IsErr result ↔ IsTrue (put_fails self.old piece.now) }
         ensures count { IfOk result (λ n. n ≡ taken_of self.old piece.now) }
         ensures after { self.new ≡ sink_after self.old piece.now }
+        ensures some { IfOk result (λ n. 0 < length piece.now → 0 < n) }
+        ensures lasting { self.old.faults ≤ self.new.faults }
     {
         self.calls = self.calls.saturating_add(1);
         let left = self.room - self.bytes.len() as u64;

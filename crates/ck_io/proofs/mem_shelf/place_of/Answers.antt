@@ -1,4 +1,4 @@
-use Rattle.std.proofs.Common.{◌≡◌, ◌≤◌, length, ◌∙◌, sym, subst, ℕ}
+use Rattle.std.proofs.Common.{◌≡◌}
 use Rattle.ck_io.specs.MemShelf.{contents, place}
 use Rattle.ck_io.proofs.Shelves.{prefix_len-map, unwrap_or-position, place-contents-le}
 use Rattle.ck_io.proofs.mem_shelf.place_of.Goals as goal

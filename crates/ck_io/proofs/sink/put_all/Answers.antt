@@ -1,4 +1,4 @@
-use Rattle.std.proofs.Common.{◌≡◌, ℕ, ◌≤◌, length, take, drop, ◌+◌, ◌-◌, arith, length-drop}
+use Rattle.std.proofs.Common.{ℕ, ◌≤◌, length, take, drop, ◌+◌, ◌-◌, arith, length-drop}
 use Rattle.std.proofs.Math.ListN.{length-take}
 use Rattle.ck_io.proofs.Puts.{appended-take-more}
 use Rattle.ck_io.proofs.sink.put_all.Goals as goal

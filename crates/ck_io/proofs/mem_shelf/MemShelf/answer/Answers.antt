@@ -1,7 +1,6 @@
-use Rattle.std.proofs.Common.{◌≡◌, ℕ, ◌+◌, ◌≤◌, ◌<◌, Bool, true, false, ◌||◌, refl, sym, ◌∙◌, arith, rules, length, is_none, ap, Some, None}
-use Rattle.std.proofs.lemmas.Grind.{common_steps}
+use Rattle.std.proofs.Common.{◌≡◌, refl, sym, ◌∙◌, arith, rules, length, ap, Some}
 use Rattle.ck_io.specs.contracts.mem_shelf.MemShelf.{the_view}
-use Rattle.ck_io.specs.MemShelf.{contents, place, bytes_under, padded}
+use Rattle.ck_io.specs.MemShelf.{contents, place, bytes_under}
 use Rattle.ck_io.proofs.Shelves.{counted, bytes_under-at, bytes_under-past, numbered, fetch_fails-unheld, fetch_fails-numbered, fetch_fails-neither, fits-padded}
 use Rattle.ck_io.proofs.mem_shelf.MemShelf.answer.Goals as goal
 use Rattle.ck_io.proofs.mem_shelf.MemShelf.answer.Goals.{then-place-len-via-then-place-len, then-place-len-via-else-place-len+then-contains}
