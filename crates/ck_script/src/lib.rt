@@ -11,7 +11,9 @@ mod parts;
 mod read;
 mod script_line;
 
+pub use decimal::{read_decimal, read_number};
 pub use fault::{ScriptError, ScriptFault, Why};
 pub use key_word::KeyWord;
 pub use line::{AskLine, Numbered, UpLine};
+pub use parts::{cut, first_line};
 pub use read::{read_queries, read_updates};
