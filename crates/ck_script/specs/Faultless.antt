@@ -49,4 +49,6 @@ module _ {K : Type 0} (IsKey : K → Type 0) (spelling : K → List ℕ) (IsKeyF
   query_faultless (Ask k) why h fault =
       let right : AreRight (key ∷ []) (spelling k ∷ []) = ((k, h, refl), tt) in
       no_argument_fault (key ∷ []) (spelling k ∷ []) why right refl fault
-  query_faultless (Wait count) why h fault = h
+  query_faultless (Wait count) why h fault =
+      let right : AreRight (number ∷ []) (decimal count ∷ []) = ((count, h, refl), tt) in
+      no_argument_fault (number ∷ []) (decimal count ∷ []) why right refl fault

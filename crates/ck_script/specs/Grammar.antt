@@ -114,10 +114,10 @@ module _ {K : Type 0} (IsKey : K → Type 0) where
   IsUpdateLine (Call Tidy) = Unit {0}
   IsUpdateLine (Hold file count) = ⊥
 
-  -- the same of a query file; a `wait` line isn't taken yet
+  -- the same of a query file
   abbrev pub IsQueryLine : AskLine K → Type 0
   IsQueryLine (Ask k) = IsKey k
-  IsQueryLine (Wait count) = ⊥
+  IsQueryLine (Wait count) = count < 2 ^ 64
 
 -- the verbs of update files that are taken, with what follows them
 abbrev pub update_verbs : List (List ℕ × List Argument)
@@ -130,7 +130,10 @@ update_verbs =
 
 -- the verbs of query files that are taken
 abbrev pub query_verbs : List (List ℕ × List Argument)
-query_verbs = (codes "get", key ∷ []) ∷ []
+query_verbs =
+  (codes "get", key ∷ [])
+  ∷ (codes "wait", number ∷ [])
+  ∷ []
 
 -- the fact, where the script wasn't refused for want of memory
 abbrev pub IfFault : ScriptError → (ScriptFault → Type 0) → Type 0

@@ -38,6 +38,18 @@ pub fn only_key<K: KeyWord>(rest: Option<&[u8]>) -> Result<K, Why>
     }
 }
 
+/// The number that stands after a verb.
+pub fn only_number<K: KeyWord>(rest: Option<&[u8]>) -> Result<u64, Why>
+    ensures { MatchResult result
+        (λ n. (n < 2 ^ 64) × (words_after rest.entry ≡ decimal n ∷ []))
+        (HasArgumentFault K.is_key K.spelling K.is_fault (number ∷ []) (words_after rest.entry)) }
+{
+    match one_word(rest) {
+        None => Err(Why::Shape),
+        Some(word) => read_number(word).ok_or(Why::Number),
+    }
+}
+
 /// Whether nothing stands after a verb.
 pub fn no_word(rest: Option<&[u8]>) -> Result<(), Why>
     ensures { MatchResult result

@@ -4,7 +4,7 @@ ghost use Rattle.ck_script.specs.Text.{words};
 
 use ck_history::Update;
 
-use crate::arguments::{key_and_number, no_word, only_key};
+use crate::arguments::{key_and_number, no_word, only_key, only_number};
 use crate::fault::Why;
 use crate::key_word::KeyWord;
 use crate::line::{AskLine, UpLine};
@@ -79,6 +79,9 @@ impl<K: KeyWord> ScriptLine for AskLine<K> {
         let (verb, rest) = cut(line, b' ');
         if verb == b"get".as_slice() {
             Ok(AskLine::Ask(only_key(rest)?))
+        } else if verb == b"wait".as_slice() {
+            let n = only_number::<K>(rest)?;
+            Ok(AskLine::Wait { n })
         } else {
             Err(Why::Verb)
         }
