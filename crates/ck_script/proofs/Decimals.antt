@@ -29,6 +29,7 @@ first_digit n h = decimal_by_steps_wide HasFirst one more n h
   where
     one : (n : ℕ) → n < 10 → HasFirst n ((48 + n) ∷ [])
     one n lt = (omega arith, λ pos. omega arith)
+
     more : (n : ℕ) (ds : List ℕ) → 10 ≤ n → HasFirst (n / 10) ds → HasFirst n (ds ++ ((48 + n % 10) ∷ []))
     more n ds le p =
         let digit : 0 < n / 10 = omega arith in (

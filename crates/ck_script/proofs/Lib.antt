@@ -1,3 +1,5 @@
 pub mod Cutting
 pub mod Decimals
 pub mod Saying
+pub mod Checking
+pub mod Ranges

@@ -4,3 +4,4 @@ pub mod Keys
 pub mod Script
 pub mod Reading
 pub mod Faultless
+pub mod Checks

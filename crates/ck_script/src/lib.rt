@@ -3,6 +3,7 @@
 #![tactic(auto)]
 
 mod arguments;
+mod check;
 mod decimal;
 mod fault;
 mod key_word;
@@ -11,6 +12,7 @@ mod parts;
 mod read;
 mod script_line;
 
+pub use check::{RangeFault, check_ranges};
 pub use decimal::{read_decimal, read_number};
 pub use fault::{ScriptError, ScriptFault, Why};
 pub use key_word::KeyWord;

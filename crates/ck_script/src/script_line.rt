@@ -2,13 +2,12 @@ ghost use Rattle.std.specs.Prelude.{MatchResult};
 ghost use Rattle.ck_script.specs.Grammar.{Says};
 ghost use Rattle.ck_script.specs.Text.{words};
 
-use ck_history::Update;
-
 use crate::arguments::{key_and_number, no_word, only_key, only_number};
 use crate::fault::Why;
 use crate::key_word::KeyWord;
 use crate::line::{AskLine, UpLine};
 use crate::parts::cut;
+use ck_history::Update;
 
 /// What one line of a script says, for the scripts of one kind.
 pub trait ScriptLine: Copy {
