@@ -1,0 +1,4 @@
+pub mod Canon
+pub mod Mixing
+pub mod Names
+pub mod ProbeOrder

@@ -1,0 +1,10 @@
+//! Probe order, hashes, names and packed entries: the ground under the tables.
+#![tactic(auto)]
+
+mod hashes;
+mod names;
+mod probes;
+
+pub use hashes::{key_code, mix};
+pub use names::{Name, Style, canon};
+pub use probes::{probe_order_law, slot};
