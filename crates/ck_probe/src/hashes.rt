@@ -1,6 +1,10 @@
-//! The mixing of numbers, and the hash of a table's key.
-ghost use Rattle.std.specs.Prelude.{◌≡◌};
+//! The mixing of numbers, and the hashes of keys and names.
+ghost use Rattle.std.specs.Prelude.{◌≡◌, ℕ, List};
+ghost use Rattle.ck_probe.specs.Canon.{canon_of};
+ghost use Rattle.ck_probe.specs.Codes.{code_of};
 ghost use Rattle.ck_probe.specs.Mixing.{key_code_of, mix_of};
+
+use crate::names::{Name, Style, canon};
 
 const FIRST_FACTOR: u64 = 0xff51_afd7_ed55_8ccd;
 
@@ -28,4 +32,19 @@ pub fn key_code(low: u64, high: u64, seed: u64) -> u64
 {
     let code = mix(low, seed);
     if high == 0 { code } else { mix(high, code) }
+}
+
+/// The hash of a name: its canon name's length mixed with the seed, and then each eight bytes of it,
+/// as a little-endian word, mixed with what came before. Names with one canon name have one hash.
+pub fn code(name: &Name, style: Style) -> u64
+    ensures value { result ≡ code_of style name.now }
+    ensures by_canon { (other : List ℕ) → canon_of style other ≡ canon_of style name.now → code_of style other ≡ result }
+{
+    let spelled = canon(style, name);
+    let len = spelled.bytes().len();
+    let mut state = mix(len as u64, style.seed);
+    for k in 0..len.div_ceil(8) {
+        state = mix(spelled.word(k), state);
+    }
+    state
 }

@@ -1,10 +1,12 @@
 //! Probe order, hashes, names and packed entries: the ground under the tables.
 #![tactic(auto)]
 
+mod entries;
 mod hashes;
 mod names;
 mod probes;
 
-pub use hashes::{key_code, mix};
+pub use entries::{entry_law, pack, unpack};
+pub use hashes::{code, key_code, mix};
 pub use names::{Name, Style, canon};
 pub use probes::{probe_order_law, slot};

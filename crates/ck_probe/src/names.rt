@@ -1,11 +1,12 @@
 //! Names, and the spelling under which they are compared.
-ghost use Rattle.std.specs.Prelude.{◌≡◌, ◌↔◌, map, IsSome, IfSome, Some, nat_eq, refl};
+ghost use Rattle.std.specs.Prelude.{◌≡◌, ℕ, ◌*◌, ◌<◌, ◌↔◌, take, drop, map, IsSome, IfSome, Some, nat_eq, refl};
 ghost use Rattle.std.specs.Cmp.{partial_equiv_from_equiv};
 ghost use Rattle.std.specs.Cmp.Lexicographic.{pointwise, slice_cmp, nat_list_eq_equiv, nat_list_cmp_total, texts_ties, texts_po};
 ghost use Rattle.std.specs.Ordering.{nat_cmp};
 ghost use Rattle.std.specs.Char.{to_ascii_lowercase};
 ghost use Rattle.ck_probe.specs.Canon.{canon_of};
-ghost use Rattle.ck_probe.specs.Names.{IsName};
+ghost use Rattle.ck_probe.specs.Names.{HoldsName, IsName};
+ghost use Rattle.ck_probe.specs.Words.{word_of};
 
 use std::cmp::Ordering;
 use std::marker::Model;
@@ -65,6 +66,31 @@ impl Name {
         ensures is_name { IsName self.now }
     {
         &self.bytes[..self.len]
+    }
+
+    // Bytes `8 * k` to `8 * k + 7` as a little-endian word, where those past the end are zero.
+    pub(crate) fn word(&self, k: usize) -> u64
+        requires { k < 6 }
+        ensures { result ≡ word_of (drop (8 * k) self.now) }
+    {
+        let mut piece = [0; 8];
+        piece.copy_from_slice(&self.bytes[8 * k..8 * k + 8]);
+        u64::from_le_bytes(piece)
+    }
+
+    // The name that the first `len` bytes are, if zero bytes follow it.
+    pub(crate) fn from_padded(bytes: [u8; LIMIT], len: u64) -> Option<Name>
+        ensures exactly { IsSome result ↔ HoldsName bytes len }
+        ensures value { IfSome result (λ name. name ≡ take len bytes) }
+    {
+        if len == 0 || len > LIMIT as u64 {
+            return None;
+        }
+        let len = len as usize;
+        if !bytes[..len].iter().all(|b| b.is_ascii_graphic()) || !bytes[len..].iter().all(|b| *b == 0) {
+            return None;
+        }
+        Some(Name { bytes, len })
     }
 }
 
