@@ -8,7 +8,7 @@ use Rattle.std.proofs.lemmas.List.Elements.{All-nil, All-cons, All-replicate}
 use Rattle.std.proofs.lemmas.Bool.{cases_lt}
 use Rattle.ck_probe.specs.Names.{IsName, HoldsName, padded}
 use Rattle.ck_probe.specs.Words.{word_of, words_of, bytes_of}
-use Rattle.ck_probe.specs.Entries.{entry_of, IsEntry, IsPacked}
+use Rattle.ck_probe.specs.Entries.{entry_of, IsEntry}
 use Rattle.ck_probe.proofs.NameBytes.{holds_padded}
 use Rattle.ck_probe.proofs.WordBytes.{get_or-filled, words_of-same, words_of-more, length-words_of, length-bytes_of, bytes_of-words_of, words_of-bytes_of, word_of-lt}
 
@@ -16,7 +16,7 @@ use Rattle.ck_probe.proofs.WordBytes.{get_or-filled, words_of-same, words_of-mor
 pub IsName-bytes : (name : List ℕ) → IsName name → (i : ℕ) → get_or name i 0 < 256
 IsName-bytes name h i =
     elim (cases_lt i (length name)) [
-      inl lt ↦ omega (arith, h.graphic i 0 lt)
+      | inl lt ↦ omega (arith, h.graphic i 0 lt)
       | inr ge ↦ (let e : get_or name i 0 ≡ 0 = get_or_past name i 0 ge in omega arith)
     ]
 
@@ -51,7 +51,7 @@ pub bytes_of-name : (name : List ℕ) → IsName name → bytes_of (words_of 6 n
 bytes_of-name name h =
     ap bytes_of (words_of-padded name)
     ∙ bytes_of-words_of 6 (padded name) (length-padded name h)
-      (λ i. let e : get_or (padded name) i 0 ≡ get_or name i 0 = get_or-filled name (48 - length name) i in omega (arith, IsName-bytes name h i))
+    (λ i. let e : get_or (padded name) i 0 ≡ get_or name i 0 = get_or-filled name (48 - length name) i in omega (arith, IsName-bytes name h i))
 
 -- 48 bytes that hold a name are its first bytes and then zero
 pub holds_name : (bytes : List ℕ) (len : ℕ) → length bytes ≡ 48 → 1 ≤ len → len ≤ 48
@@ -62,9 +62,9 @@ holds_name bytes len long low high graphic zeros =
       name = record { not_empty = omega arith; in_limit = omega arith; graphic = graphic };
       len_is = len_is;
       filled =
-        sym (take-append-drop len bytes)
-        ∙ ap (λ zs. take len bytes ++ zs) (all_zero (drop len bytes) zeros)
-        ∙ ap (λ n. take len bytes ++ replicate n 0) (let e : length (drop len bytes) ≡ 48 - length (take len bytes) = omega (arith, length-drop len bytes) in e);
+          sym (take-append-drop len bytes)
+          ∙ ap (λ zs. take len bytes ++ zs) (all_zero (drop len bytes) zeros)
+          ∙ ap (λ n. take len bytes ++ replicate n 0) (let e : length (drop len bytes) ≡ 48 - length (take len bytes) = omega (arith, length-drop len bytes) in e);
     }
 
 -- what holds a name has zero bytes after it
@@ -72,7 +72,7 @@ pub holds-zeros : (bytes : List ℕ) (len : ℕ) → HoldsName bytes len → All
 holds-zeros bytes len h =
     let name : List ℕ = take len bytes in
     let zeros : drop len bytes ≡ replicate (48 - length name) 0 =
-        ap (λ n. drop n bytes) (sym h.len_is) ∙ ap (drop (length name)) h.filled ∙ drop-append_seam name (replicate (48 - length name) 0) in
+    ap (λ n. drop n bytes) (sym h.len_is) ∙ ap (drop (length name)) h.filled ∙ drop-append_seam name (replicate (48 - length name) 0) in
     let P : List ℕ → Type 0 = All (λ b. b ≡ 0) in
     subst P (sym zeros) (All-replicate (λ b. b ≡ 0) (48 - length name) 0 refl)
 
@@ -100,9 +100,9 @@ packed_from_holds block eight small h =
     let name : List ℕ = take (get_or block 0 0) (bytes_of words) in
     let six : length words ≡ 6 = omega (arith, length-drop 2 block) in
     let low : (i : ℕ) → get_or words i 0 < 2 ^ 64 =
-        λ i. (let e : get_or words i 0 ≡ get_or block (2 + i) 0 = get_or-drop 2 block i 0 in omega (arith, small (2 + i))) in
+    λ i. (let e : get_or words i 0 ≡ get_or block (2 + i) 0 = get_or-drop 2 block i 0 in omega (arith, small (2 + i))) in
     let rest : words ≡ words_of 6 name =
-        sym (words_of-bytes_of words low) ∙ ap (λ n. words_of n (bytes_of words)) six ∙ ap (words_of 6) h.filled ∙ sym (words_of-padded name) in
+    sym (words_of-bytes_of words low) ∙ ap (λ n. words_of n (bytes_of words)) six ∙ ap (words_of 6) h.filled ∙ sym (words_of-padded name) in
     drop_more block 0 0 (omega arith)
     ∙ ap (λ ws. get_or block 0 0 ∷ ws) (drop_more block 1 0 (omega arith))
     ∙ ap (λ n. n ∷ get_or block 1 0 ∷ words) (sym h.len_is)
@@ -114,14 +114,13 @@ pub holds_from_packed : (block name : List ℕ) (value : ℕ) → IsName name �
 unfolding entry_of
 holds_from_packed block name value h e =
     let P : List ℕ → Type 0 =
-        λ b. HoldsName (bytes_of (drop 2 b)) (get_or b 0 0) × (take (get_or b 0 0) (bytes_of (drop 2 b)) ≡ name) × (get_or b 1 0 ≡ value) in
+    λ b. HoldsName (bytes_of (drop 2 b)) (get_or b 0 0) × (take (get_or b 0 0) (bytes_of (drop 2 b)) ≡ name) × (get_or b 1 0 ≡ value) in
     let bytes : bytes_of (words_of 6 name) ≡ padded name = bytes_of-name name h in
-    let own : P (entry_of name value) =
-        (
-          holds_padded name (bytes_of (words_of 6 name)) h bytes,
-          ap (take (length name)) bytes ∙ take-append_seam name (replicate (48 - length name) 0),
-          refl
-        ) in
+    let own : P (entry_of name value) = (
+      holds_padded name (bytes_of (words_of 6 name)) h bytes,
+      ap (take (length name)) bytes ∙ take-append_seam name (replicate (48 - length name) 0),
+      refl,
+    ) in
     subst P (sym e) own
 
 pub length-entry_of : (name : List ℕ) (value : ℕ) → length (entry_of name value) ≡ 8
@@ -133,7 +132,7 @@ unfolding words_of
 words_of-fit zero bytes small = All-nil (λ word. word < 2 ^ 64)
 words_of-fit (suc n) bytes small =
     let rest : (i : ℕ) → get_or (drop 8 bytes) i 0 < 256 =
-        λ i. (let e : get_or (drop 8 bytes) i 0 ≡ get_or bytes (8 + i) 0 = get_or-drop 8 bytes i 0 in omega (arith, small (8 + i))) in
+    λ i. (let e : get_or (drop 8 bytes) i 0 ≡ get_or bytes (8 + i) 0 = get_or-drop 8 bytes i 0 in omega (arith, small (8 + i))) in
     All-cons (λ word. word < 2 ^ 64) (word_of bytes) (words_of n (drop 8 bytes)) (word_of-lt bytes small) (words_of-fit n (drop 8 bytes) rest)
 
 pub entry_of-fits : (name : List ℕ) (value : ℕ) → IsName name → value < 2 ^ 64 → All (λ word. word < 2 ^ 64) (entry_of name value)

@@ -1,5 +1,5 @@
 -- Bytes as words and words as bytes.
-use Rattle.std.proofs.Common.{◌≡◌, ℕ, ◌+◌, ◌*◌, ◌^◌, ◌<◌, ◌≤◌, List, [], ◌∷◌, ◌++◌, length, take, drop, get_or, zero, suc, sym, ◌∙◌, ap, refl, subst, inl, inr, arith}
+use Rattle.std.proofs.Common.{◌≡◌, ℕ, ◌+◌, ◌*◌, ◌^◌, ◌<◌, ◌≤◌, List, [], ◌∷◌, ◌++◌, length, take, drop, get_or, zero, suc, sym, ◌∙◌, ap, refl, inl, inr, arith}
 use Rattle.std.specs.Prelude.{replicate}
 use Rattle.std.specs.Int.{w64, from_le_bytes, to_le_bytes, sum_through, byte_worth}
 use Rattle.std.proofs.lemmas.List.{get_or-take, get_or-drop, drop-drop, take_at, drop_at, length-take, length-take-le, get_or_past, length-drop, length-append, take-append-drop, nil_from_length}
@@ -51,7 +51,7 @@ unfolding words_of
 words_of-same zero xs ys h = refl
 words_of-same (suc n) xs ys h =
     let rest : words_of n (drop 8 xs) ≡ words_of n (drop 8 ys) =
-        words_of-same n (drop 8 xs) (drop 8 ys) (λ i. get_or-drop 8 xs i 0 ∙ h (8 + i) ∙ sym (get_or-drop 8 ys i 0)) in
+    words_of-same n (drop 8 xs) (drop 8 ys) (λ i. get_or-drop 8 xs i 0 ∙ h (8 + i) ∙ sym (get_or-drop 8 ys i 0)) in
     ap (λ w. w ∷ words_of n (drop 8 xs)) (word_of-same xs ys h) ∙ ap (λ ws. word_of ys ∷ ws) rest
 
 -- one more word
@@ -80,7 +80,7 @@ bytes_of-push words w = flat_map-append (to_le_bytes w64) words (w ∷ [])
 piece_small : (bytes : List ℕ) → ((i : ℕ) → get_or bytes i 0 < 256) → (i : ℕ) → get_or (take 8 bytes) i 0 < 256
 piece_small bytes small i =
     elim (cases_lt i 8) [
-      inl lt ↦ (let e : get_or (take 8 bytes) i 0 ≡ get_or bytes i 0 = get_or-take 8 bytes i 0 lt in omega (arith, small i))
+      | inl lt ↦ (let e : get_or (take 8 bytes) i 0 ≡ get_or bytes i 0 = get_or-take 8 bytes i 0 lt in omega (arith, small i))
       | inr ge ↦ (let e : get_or (take 8 bytes) i 0 ≡ 0 = get_or_past (take 8 bytes) i 0 (omega (arith, length-take 8 bytes)) in omega arith)
     ]
 
@@ -91,9 +91,9 @@ bytes_of-words_of zero bytes long small = sym (nil_from_length bytes (omega arit
 bytes_of-words_of (suc n) bytes long small =
     let whole : length (take 8 bytes) ≡ 8 = length-take-le 8 bytes (omega arith) in
     let first : to_le_bytes w64 (word_of bytes) ≡ take 8 bytes =
-        le_bytes_8 (take 8 bytes) (word_of bytes) whole (piece_small bytes small) (sym (word_of-piece bytes)) in
+    le_bytes_8 (take 8 bytes) (word_of bytes) whole (piece_small bytes small) (sym (word_of-piece bytes)) in
     let rest : bytes_of (words_of n (drop 8 bytes)) ≡ drop 8 bytes =
-        bytes_of-words_of n (drop 8 bytes) (omega (arith, length-drop 8 bytes)) (λ i. let e : get_or (drop 8 bytes) i 0 ≡ get_or bytes (8 + i) 0 = get_or-drop 8 bytes i 0 in omega (arith, small (8 + i))) in
+    bytes_of-words_of n (drop 8 bytes) (omega (arith, length-drop 8 bytes)) (λ i. let e : get_or (drop 8 bytes) i 0 ≡ get_or bytes (8 + i) 0 = get_or-drop 8 bytes i 0 in omega (arith, small (8 + i))) in
     ap (λ p. p ++ bytes_of (words_of n (drop 8 bytes))) first ∙ ap (λ q. take 8 bytes ++ q) rest ∙ take-append-drop 8 bytes
 
 -- bytes of words give the words back
@@ -104,9 +104,9 @@ words_of-bytes_of (w ∷ ws) small =
     let piece : take 8 (to_le_bytes w64 w ++ bytes_of ws) ≡ to_le_bytes w64 w = take_at (to_le_bytes w64 w) (bytes_of ws) 8 refl in
     let after : drop 8 (to_le_bytes w64 w ++ bytes_of ws) ≡ bytes_of ws = drop_at (to_le_bytes w64 w) (bytes_of ws) 8 refl in
     let first : word_of (to_le_bytes w64 w ++ bytes_of ws) ≡ w =
-        sym (word_of-piece (to_le_bytes w64 w ++ bytes_of ws)) ∙ ap (from_le_bytes w64) piece ∙ from_le_bytes-to_le_bytes_8 w (small 0) in
+    sym (word_of-piece (to_le_bytes w64 w ++ bytes_of ws)) ∙ ap (from_le_bytes w64) piece ∙ from_le_bytes-to_le_bytes_8 w (small 0) in
     let rest : words_of (length ws) (drop 8 (to_le_bytes w64 w ++ bytes_of ws)) ≡ ws =
-        ap (words_of (length ws)) after ∙ words_of-bytes_of ws (λ i. small (suc i)) in
+    ap (words_of (length ws)) after ∙ words_of-bytes_of ws (λ i. small (suc i)) in
     ap (λ x. x ∷ words_of (length ws) (drop 8 (to_le_bytes w64 w ++ bytes_of ws))) first ∙ ap (λ xs. w ∷ xs) rest
 
 digits_fit : (b0 b1 b2 b3 b4 b5 b6 b7 : ℕ) → b0 < 256 → b1 < 256 → b2 < 256 → b3 < 256 → b4 < 256 → b5 < 256 → b6 < 256 → b7 < 256
@@ -119,7 +119,7 @@ unfolding word_of
 word_of-lt bytes small =
     let piece : List ℕ = take 8 (bytes ++ replicate 8 0) in
     let low : (i : ℕ) → i < 8 → get_or piece i 0 < 256 =
-        λ i lt. (let e : get_or piece i 0 ≡ get_or bytes i 0 = filled_piece bytes i lt in omega (arith, small i)) in
+    λ i lt. (let e : get_or piece i 0 ≡ get_or bytes i 0 = filled_piece bytes i lt in omega (arith, small i)) in
     digits_fit (get_or piece 0 0) (get_or piece 1 0) (get_or piece 2 0) (get_or piece 3 0)
     (get_or piece 4 0) (get_or piece 5 0) (get_or piece 6 0) (get_or piece 7 0)
     (low 0 (omega arith)) (low 1 (omega arith)) (low 2 (omega arith)) (low 3 (omega arith))

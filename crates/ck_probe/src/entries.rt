@@ -57,5 +57,4 @@ pub fn entry_law()
     ensures fits { (name : List ℕ) (value : ℕ) → IsName name → value < 2 ^ 64 → All (λ word. word < 2 ^ 64) (entry_of name value) }
     ensures is_entry { (name : List ℕ) (value : ℕ) → IsName name → IsEntry (entry_of name value) }
     ensures injective { (name other : List ℕ) (value worth : ℕ) → IsName name → IsName other → entry_of name value ≡ entry_of other worth → (name ≡ other) × (value ≡ worth) }
-{
-}
+{}

@@ -87,7 +87,9 @@ impl Name {
             return None;
         }
         let len = len as usize;
-        if !bytes[..len].iter().all(|b| b.is_ascii_graphic()) || !bytes[len..].iter().all(|b| *b == 0) {
+        if !bytes[..len].iter().all(|b| b.is_ascii_graphic())
+            || !bytes[len..].iter().all(|b| *b == 0)
+        {
             return None;
         }
         Some(Name { bytes, len })

@@ -19,4 +19,4 @@ returns c =
     ∙ ap (from_le_bytes w64) (c.copy_from_slice.ensures.after ∙ ap (λ n. take n (drop m c.self.inside.bytes)) eight)
     ∙ word_of-piece (drop m c.self.inside.bytes)
     ∙ word_of-same (drop m c.self.inside.bytes) (drop m c.args.self.now)
-      (λ i. get_or-drop m c.self.inside.bytes i 0 ∙ held c (m + i) ∙ sym (get_or-drop m c.args.self.now i 0))
+    (λ i. get_or-drop m c.self.inside.bytes i 0 ∙ held c (m + i) ∙ sym (get_or-drop m c.args.self.now i 0))
