@@ -5,6 +5,8 @@ mod entries;
 mod hashes;
 mod names;
 mod probes;
+#[cfg(test)]
+mod tests;
 
 pub use entries::{entry_law, pack, unpack};
 pub use hashes::{code, key_code, mix};

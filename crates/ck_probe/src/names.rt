@@ -9,6 +9,7 @@ ghost use Rattle.ck_probe.specs.Names.{HoldsName, IsName};
 ghost use Rattle.ck_probe.specs.Words.{word_of};
 
 use std::cmp::Ordering;
+use std::fmt;
 use std::marker::Model;
 
 /// The most bytes that a name has.
@@ -93,6 +94,15 @@ impl Name {
             return None;
         }
         Some(Name { bytes, len })
+    }
+}
+
+impl fmt::Debug for Name {
+    fn fmt<W: fmt::Write>(&self, f: &mut fmt::Formatter<W>) -> fmt::Result {
+        for b in self.bytes() {
+            f.write_char(char::from(*b))?;
+        }
+        Ok(())
     }
 }
 
