@@ -4,7 +4,7 @@ use Rattle.std.specs.Char.{IsAsciiGraphic}
 use Rattle.ck_probe.specs.Names.{IsName}
 use Rattle.ck_probe.specs.Words.{bytes_of, words_of}
 
--- the name's length, the value, and the name's 48 bytes as six words
+-- the name's length, the value, and the name's bytes, filled up to 48 with zero bytes, as six words
 unfoldable pub entry_of : List ℕ → ℕ → List ℕ
 entry_of name value = length name ∷ value ∷ words_of 6 name
 

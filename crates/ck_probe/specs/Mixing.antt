@@ -9,7 +9,7 @@ folded x = bit_xor x (x / 2 ^ 33)
 abbrev pub times : ℕ → ℕ → ℕ
 times x y = x * y % 2 ^ 64
 
--- the 64-bit finalizer of MurmurHash3, of the key with the salt's bits flipped
+-- the 64-bit finalizer of MurmurHash3, of the exclusive or of key and salt
 unfoldable pub mix_of : ℕ → ℕ → ℕ
 mix_of key salt =
     folded (times (folded (times (folded (bit_xor key salt)) 0xff51afd7ed558ccd)) 0xc4ceb9fe1a85ec53)

@@ -50,11 +50,11 @@ fn bytes_of_words(words: &[u64]) -> [u8; 48]
     bytes
 }
 
-/// What packing keeps: an entry has eight words, each below 2^64 where the value is, it has the
-/// layout of one, and no other name and value have the same.
+/// What packing keeps: an entry has eight words, each below 2^64 where the value is; it has the
+/// layout of an entry; and no two names or values have the same one.
 pub fn entry_law()
     ensures eight_words { (name : List ℕ) (value : ℕ) → length (entry_of name value) ≡ 8 }
     ensures fits { (name : List ℕ) (value : ℕ) → IsName name → value < 2 ^ 64 → All (λ word. word < 2 ^ 64) (entry_of name value) }
     ensures is_entry { (name : List ℕ) (value : ℕ) → IsName name → IsEntry (entry_of name value) }
-    ensures injective { (name other : List ℕ) (value worth : ℕ) → IsName name → IsName other → entry_of name value ≡ entry_of other worth → (name ≡ other) × (value ≡ worth) }
+    ensures injective { (name other : List ℕ) (value other_value : ℕ) → IsName name → IsName other → entry_of name value ≡ entry_of other other_value → (name ≡ other) × (value ≡ other_value) }
 {}

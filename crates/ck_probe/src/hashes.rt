@@ -30,8 +30,8 @@ pub fn mix(key: u64, salt: u64) -> u64
 pub fn key_code(low: u64, high: u64, seed: u64) -> u64
     ensures { result ≡ key_code_of low high seed }
 {
-    let code = mix(low, seed);
-    if high == 0 { code } else { mix(high, code) }
+    let hash = mix(low, seed);
+    if high == 0 { hash } else { mix(high, hash) }
 }
 
 /// The hash of a name: its canon name's length mixed with the seed, and then each eight bytes of it,

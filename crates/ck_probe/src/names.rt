@@ -12,8 +12,8 @@ use std::cmp::Ordering;
 use std::fmt;
 use std::marker::Model;
 
-/// The most bytes that a name has.
-const LIMIT: usize = 48;
+// The most bytes that a name has.
+const MAX_LEN: usize = 48;
 
 /// How names are compared and hashed.
 #[derive(Clone, Copy, Debug, PartialEq, Eq)]
@@ -27,7 +27,7 @@ pub struct Style {
 /// A name: 1 to 48 bytes, each from 0x21 to 0x7E. Contracts see it as the list of its bytes.
 #[derive(Clone, Copy)]
 pub struct Name {
-    bytes: [u8; LIMIT],
+    bytes: [u8; MAX_LEN],
     len: usize,
 }
 
@@ -50,10 +50,13 @@ impl Name {
         ensures exactly { IsSome result ↔ IsName bytes.now }
         ensures value { IfSome result (λ name. name ≡ bytes.now) }
     {
-        if bytes.is_empty() || bytes.len() > LIMIT || !bytes.iter().all(|b| b.is_ascii_graphic()) {
+        if bytes.is_empty()
+            || bytes.len() > MAX_LEN
+            || !bytes.iter().all(|b| b.is_ascii_graphic())
+        {
             return None;
         }
-        let mut padded = [0; LIMIT];
+        let mut padded = [0; MAX_LEN];
         padded[..bytes.len()].copy_from_slice(bytes);
         Some(Name {
             bytes: padded,
@@ -80,11 +83,11 @@ impl Name {
     }
 
     // The name that the first `len` bytes are, if zero bytes follow it.
-    pub(crate) fn from_padded(bytes: [u8; LIMIT], len: u64) -> Option<Name>
+    pub(crate) fn from_padded(bytes: [u8; MAX_LEN], len: u64) -> Option<Name>
         ensures exactly { IsSome result ↔ HoldsName bytes len }
         ensures value { IfSome result (λ name. name ≡ take len bytes) }
     {
-        if len == 0 || len > LIMIT as u64 {
+        if len == 0 || len > MAX_LEN as u64 {
             return None;
         }
         let len = len as usize;
