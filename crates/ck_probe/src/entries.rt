@@ -32,10 +32,8 @@ pub fn unpack(block: &[u64; 8]) -> Option<(Name, u64)>
     ensures packed { IfSome result (λ pair. IsName pair.0 × (block.now ≡ entry_of pair.0 pair.1)) }
     ensures undoes { (name : List ℕ) (value : ℕ) → IsName name → block.now ≡ entry_of name value → result ≡ Some (name, value) }
 {
-    match Name::from_padded(bytes_of_words(&block[2..]), block[0]) {
-        Some(name) => Some((name, block[1])),
-        None => None,
-    }
+    let name = Name::from_padded(bytes_of_words(&block[2..]), block[0])?;
+    Some((name, block[1]))
 }
 
 // The bytes of six words, in order.

@@ -1,4 +1,4 @@
-//! Probe order, hashes, names and packed entries: the ground under the tables.
+//! Probe order, hashes, names and packed entries, on which the tables stand.
 #![tactic(auto)]
 
 mod entries;
