@@ -2,4 +2,7 @@
 //! words. No word is ever in two pieces that are out.
 #![tactic(auto)]
 
+mod buddies;
 mod tree;
+
+pub use buddies::Buddies;

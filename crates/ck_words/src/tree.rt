@@ -42,3 +42,43 @@ pub fn rise(halvings: &mut [u8], mut node: usize)
         halvings[node] = value;
     }
 }
+
+/// The half of a node whose halvings are at most `spare`: the left one where both are.
+fn fitting_half(halvings: &[u8], node: usize, spare: u64) -> usize
+    requires positive { 1 ≤ node }
+    requires inner { 2 * node + 1 < length halvings.now }
+    requires consistent { IsConsistent halvings.now }
+    requires small { spare < 24 }
+    requires cut { slice_index halvings.now node ≢ 0 }
+    requires fits { slice_index halvings.now node ≤ spare + 1 }
+    ensures half { result / 2 ≡ node }
+    ensures fits { slice_index halvings.now result ≤ spare }
+{
+    let left = 2 * node;
+    if u64::from(halvings[left]) <= spare {
+        left
+    } else {
+        left + 1
+    }
+}
+
+/// The first node that is free whole, of those `depth` levels below the root.
+pub fn descend(halvings: &[u8], depth: u64) -> usize
+    requires consistent { IsConsistent halvings.now }
+    requires even { length halvings.now % 2 ≡ 0 }
+    requires deep { depth ≤ 24 }
+    requires tall { 2 * 2 ^ depth ≤ length halvings.now }
+    requires fits { slice_index halvings.now 1 ≤ depth }
+    ensures from { 2 ^ depth ≤ result }
+    ensures to { result < 2 * 2 ^ depth }
+    ensures whole { slice_index halvings.now result ≡ 0 }
+    ensures path { NoneOutFrom halvings.now result }
+{
+    let mut node = 1;
+    let mut spare = depth;
+    while spare > 0 && halvings[node] > 0 {
+        spare -= 1;
+        node = fitting_half(halvings, node, spare);
+    }
+    node << spare
+}

@@ -1,0 +1,67 @@
+-- The nodes above a node, and a node that is free whole.
+use Rattle.std.proofs.Common.{◌≡◌, ◌≢◌, ℕ, zero, suc, ◌+◌, ◌-◌, ◌*◌, ◌/◌, ◌%◌, ◌^◌, ◌<◌, ◌≤◌, ◌⊎◌, inl, inr, List, length, slice_index, arith, refl, sym, ap, subst, ◌∙◌}
+use Rattle.std.proofs.lemmas.Bool.{cases_eq}
+use Rattle.std.proofs.lemmas.Bool.Decides.{nat_tests}
+use Rattle.std.proofs.lemmas.Nat.{pow_pos}
+use Rattle.std.proofs.Math.Nat.{pow-suc, mul-le-mul_right, le_of_mul-le-mul_right}
+use Rattle.ck_words.specs.Tree.{joined_halvings, IsConsistentAt, IsConsistent, NoneOutFrom, ancestor}
+
+pub ancestor-le : (up i : ℕ) → ancestor up i ≤ i
+ancestor-le zero i = omega arith
+ancestor-le (suc up) i = let above = ancestor-le up (i / 2) in omega arith
+
+pub ancestor-ancestor : (more up i : ℕ) → ancestor more (ancestor up i) ≡ ancestor (up + more) i
+ancestor-ancestor more zero i =
+    let same : more ≡ 0 + more = omega arith in
+    ap (λ n. ancestor n i) same
+ancestor-ancestor more (suc up) i =
+    let same : suc (up + more) ≡ suc up + more = omega arith in
+    ancestor-ancestor more up (i / 2) ∙ ap (λ n. ancestor n i) same
+
+twice_from : (a p i : ℕ) → a * p ≤ i / 2 → a * (p * 2) ≤ i
+twice_from a p i h = omega arith
+
+half_from : (a p i : ℕ) → a * (p * 2) ≤ i → a * p ≤ i / 2
+half_from a p i h = omega arith
+
+twice_to : (a p i : ℕ) → i / 2 < (a + 1) * p → i < (a + 1) * (p * 2)
+twice_to a p i h = omega arith
+
+half_to : (a p i : ℕ) → i < (a + 1) * (p * 2) → i / 2 < (a + 1) * p
+half_to a p i h = omega arith
+
+-- a node stands at or below another where its number lies in the other's range
+pub ancestor-from : (up i : ℕ) → ancestor up i * 2 ^ up ≤ i
+ancestor-from zero i = omega arith
+ancestor-from (suc up) i = rw (pow-suc 2 up) (twice_from (ancestor up (i / 2)) (2 ^ up) i (ancestor-from up (i / 2)))
+
+pub ancestor-to : (up i : ℕ) → i < (ancestor up i + 1) * 2 ^ up
+ancestor-to zero i = omega arith
+ancestor-to (suc up) i = rw (pow-suc 2 up) (twice_to (ancestor up (i / 2)) (2 ^ up) i (ancestor-to up (i / 2)))
+
+pub ancestor-is : (up i above : ℕ) → above * 2 ^ up ≤ i → i < (above + 1) * 2 ^ up → ancestor up i ≡ above
+ancestor-is zero i above from to = omega arith
+ancestor-is (suc up) i above from to =
+    ancestor-is up (i / 2) above (half_from above (2 ^ up) i (rw (pow-suc 2 up) at from)) (half_to above (2 ^ up) i (rw (pow-suc 2 up) at to))
+
+joined_whole : (left right : ℕ) → joined_halvings left right ≡ 0 → (left ≡ 0) × (right ≡ 0)
+joined_whole left right whole = (grind (arith, nat_tests), grind (arith, nat_tests))
+
+halves_whole : (h : List ℕ) (i : ℕ) → IsConsistentAt h i → 2 * i + 1 < length h → slice_index h i ≡ 0 → (slice_index h (2 * i) ≡ 0) × (slice_index h (2 * i + 1) ≡ 0)
+halves_whole h i at inner whole = joined_whole _ _ (sym (at.joined inner (λ e. omega (arith, e, whole))) ∙ whole)
+
+-- the halves of a node that is free whole are free whole
+pub whole_half : (h : List ℕ) (i : ℕ) → IsConsistent h → length h % 2 ≡ 0 → 1 < i → i < length h → slice_index h (i / 2) ≡ 0 → slice_index h i ≡ 0
+whole_half h i consistent even below_root within whole =
+    let halves = halves_whole h (i / 2) (consistent (i / 2) (omega arith) (omega arith)) (omega arith) whole in
+    elim (cases_eq (i % 2) 0) [
+      | inl is_even ↦ let left : i ≡ 2 * (i / 2) = omega arith in ap (slice_index h) left ∙ halves.0
+      | inr is_odd ↦ let right : i ≡ 2 * (i / 2) + 1 = omega arith in ap (slice_index h) right ∙ halves.1
+    ]
+
+-- all nodes below a node that is free whole are free whole
+pub whole_below : (h : List ℕ) (up i : ℕ) → IsConsistent h → length h % 2 ≡ 0 → 1 ≤ ancestor up i → i < length h → slice_index h (ancestor up i) ≡ 0 → slice_index h i ≡ 0
+whole_below h zero i consistent even positive within whole = whole
+whole_below h (suc up) i consistent even positive within whole =
+    let above_le = ancestor-le up (i / 2) in
+    whole_half h i consistent even (omega arith) within (whole_below h up (i / 2) consistent even positive (omega arith) whole)
