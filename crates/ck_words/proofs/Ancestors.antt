@@ -50,18 +50,51 @@ joined_whole left right whole = (grind (arith, nat_tests), grind (arith, nat_tes
 halves_whole : (h : List ℕ) (i : ℕ) → IsConsistentAt h i → 2 * i + 1 < length h → slice_index h i ≡ 0 → (slice_index h (2 * i) ≡ 0) × (slice_index h (2 * i + 1) ≡ 0)
 halves_whole h i at inner whole = joined_whole _ _ (sym (at.joined inner (λ e. omega (arith, e, whole))) ∙ whole)
 
--- the halves of a node that is free whole are free whole
-pub whole_half : (h : List ℕ) (i : ℕ) → IsConsistent h → length h % 2 ≡ 0 → 1 < i → i < length h → slice_index h (i / 2) ≡ 0 → slice_index h i ≡ 0
-whole_half h i consistent even below_root within whole =
-    let halves = halves_whole h (i / 2) (consistent (i / 2) (omega arith) (omega arith)) (omega arith) whole in
+-- a half of a node is one of its two halves
+half_of : (h : List ℕ) (i : ℕ) → slice_index h (2 * (i / 2)) ≡ 0 → slice_index h (2 * (i / 2) + 1) ≡ 0 → slice_index h i ≡ 0
+half_of h i left right =
     elim (cases_eq (i % 2) 0) [
-      | inl is_even ↦ let left : i ≡ 2 * (i / 2) = omega arith in ap (slice_index h) left ∙ halves.0
-      | inr is_odd ↦ let right : i ≡ 2 * (i / 2) + 1 = omega arith in ap (slice_index h) right ∙ halves.1
+      | inl is_even ↦ let same : i ≡ 2 * (i / 2) = omega arith in ap (slice_index h) same ∙ left
+      | inr is_odd ↦ let same : i ≡ 2 * (i / 2) + 1 = omega arith in ap (slice_index h) same ∙ right
     ]
 
--- all nodes below a node that is free whole are free whole
-pub whole_below : (h : List ℕ) (up i : ℕ) → IsConsistent h → length h % 2 ≡ 0 → 1 ≤ ancestor up i → i < length h → slice_index h (ancestor up i) ≡ 0 → slice_index h i ≡ 0
-whole_below h zero i consistent even positive within whole = whole
-whole_below h (suc up) i consistent even positive within whole =
-    let above_le = ancestor-le up (i / 2) in
-    whole_half h i consistent even (omega arith) within (whole_below h up (i / 2) consistent even positive (omega arith) whole)
+-- the node above a node is the last of its ancestors
+pub ancestor-last : (up i : ℕ) → ancestor up i / 2 ≡ ancestor (suc up) i
+ancestor-last up i = let same : up + 1 ≡ suc up = omega arith in ancestor-ancestor 1 up i ∙ ap (λ n. ancestor n i) same
+
+module _ (h : List ℕ) (consistent : IsConsistent h) (even : length h % 2 ≡ 0) where
+  -- the halves of a node that is free whole are free whole
+  pub whole_half : (i : ℕ) → 1 < i → i < length h → slice_index h (i / 2) ≡ 0 → slice_index h i ≡ 0
+  whole_half i below_root within whole =
+      let halves = halves_whole h (i / 2) (consistent (i / 2) (omega arith) (omega arith)) (omega arith) whole in
+      half_of h i halves.0 halves.1
+
+  -- and those of a node that is out are as if free
+  pub out_half : (i : ℕ) → 1 < i → i < length h → slice_index h (i / 2) ≡ 26 → slice_index h i ≡ 0
+  out_half i below_root within is_out =
+      let at = consistent (i / 2) (omega arith) (omega arith) in
+      let halves = at.out (omega arith) is_out in
+      half_of h i halves.0 halves.1
+
+  -- all nodes below a node that is free whole are free whole
+  pub whole_below : (up i : ℕ) → 1 ≤ ancestor up i → i < length h → slice_index h (ancestor up i) ≡ 0 → slice_index h i ≡ 0
+  whole_below zero i positive within whole = whole
+  whole_below (suc up) i positive within whole =
+      let above_le = ancestor-le up (i / 2) in
+      let positive' : 1 ≤ ancestor up (i / 2) = positive in
+      whole_half i (omega arith) within (whole_below up (i / 2) positive (omega arith) whole)
+
+  -- no node below one that is out is out
+  pub none_below_out : (up i : ℕ) → 1 ≤ ancestor (suc up) i → i < length h → slice_index h (ancestor (suc up) i) ≡ 26 → slice_index h i ≢ 26
+  none_below_out up i positive within above is_out =
+      let last = ancestor-last up i in
+      let least = ancestor-le up i in
+      let parent_positive : 1 ≤ ancestor up i / 2 = subst (λ n. 1 ≤ n) (sym last) positive in
+      let below_root : 1 < ancestor up i = omega arith in
+      let half = out_half (ancestor up i) below_root (omega arith) (ap (slice_index h) last ∙ above) in
+      let whole = whole_below up i (omega arith) within half in
+      omega (arith, whole, is_out)
+
+  -- so no node above one that is out is out
+  pub none_above_out : (i : ℕ) → i < length h → slice_index h i ≡ 26 → NoneOutFrom h (i / 2)
+  none_above_out i within is_out up positive above = none_below_out up i positive within above is_out

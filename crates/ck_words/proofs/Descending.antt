@@ -94,7 +94,7 @@ first_below h (suc below) node consistent even positive within whole path =
     let in_tree : 2 * node < length h = omega arith in
     let room : (2 * node + 1) * 2 ^ below ≤ length h = omega arith in
     let above : slice_index h (2 * node / 2) ≡ 0 = ap (slice_index h) (half_of_double node) ∙ whole in
-    let is = whole_half h (2 * node) consistent even (omega arith) in_tree above in
+    let is = whole_half h consistent even (2 * node) (omega arith) in_tree above in
     let on_path = path_next h (2 * node) (λ e. omega (arith, e, is)) (subst (NoneOutFrom h) (sym (half_of_double node)) path) in
     let same : (2 * node) * 2 ^ below ≡ node * 2 ^ suc below = doubled_node node (2 ^ below) ∙ ap (λ p. node * p) (sym (pow-suc 2 below)) in
     subst (λ i. (slice_index h i ≡ 0) × NoneOutFrom h i) same (first_below h below (2 * node) consistent even (omega arith) room is on_path)
