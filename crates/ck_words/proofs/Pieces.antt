@@ -32,7 +32,7 @@ contains_cases xs x y h =
 
 module _ (h : List ℕ) (first log_len log : ℕ) where
   -- the piece is the m-th of a row, one of the first n, and out
-  record IsInRow (n : ℕ) (p : Piece) (m : ℕ) : Type 0 where
+  pub record IsInRow (n : ℕ) (p : Piece) (m : ℕ) : Type 0 where
     within : m < n
     is : p ≡ piece (first + m * 2 ^ log) log
     out : slice_index h (2 ^ (log_len - log) + m) ≡ 26
@@ -75,18 +75,18 @@ module _ (h : List ℕ) (first log_len log : ℕ) where
           ] in
       cases _ refl
 
-row_size : (log_len log : ℕ) → log ≤ log_len → 2 ^ (log_len - log) * 2 ^ log ≡ 2 ^ log_len
+pub row_size : (log_len log : ℕ) → log ≤ log_len → 2 ^ (log_len - log) * 2 ^ log ≡ 2 ^ log_len
 row_size log_len log most = let e : (log_len - log) + log ≡ log_len = omega arith in sym (pow-add 2 (log_len - log) log) ∙ ap (λ n. 2 ^ n) e
 
 -- the node of the m-th piece of a row
 module _ (first log_len log_min : ℕ) (p : Piece) (least : log_min ≤ p.log) (most : p.log ≤ log_len) where
-  range_of_place : (m : ℕ) → m < 2 ^ (log_len - p.log) → p.at ≡ first + m * 2 ^ p.log → IsRangeOf first log_len log_min p (2 ^ (log_len - p.log) + m)
+  pub range_of_place : (m : ℕ) → m < 2 ^ (log_len - p.log) → p.at ≡ first + m * 2 ^ p.log → IsRangeOf first log_len log_min p (2 ^ (log_len - p.log) + m)
   range_of_place m within at =
       let size = row_size log_len p.log most in
       let below : (m + 1) * 2 ^ p.log ≤ 2 ^ (log_len - p.log) * 2 ^ p.log = mul-le-mul_right (2 ^ p.log) (omega arith) in
       record { least = least; most = most; place = omega arith; from = omega arith; to = omega arith }
 
-  place_of_range : (node : ℕ) → IsRangeOf first log_len log_min p node → (m : ℕ) × ((m < 2 ^ (log_len - p.log)) × ((p.at ≡ first + m * 2 ^ p.log) × (2 ^ (log_len - p.log) + m ≡ node)))
+  pub place_of_range : (node : ℕ) → IsRangeOf first log_len log_min p node → (m : ℕ) × ((m < 2 ^ (log_len - p.log)) × ((p.at ≡ first + m * 2 ^ p.log) × (2 ^ (log_len - p.log) + m ≡ node)))
   place_of_range node range =
       let size = row_size log_len p.log most in
       let positive = pow_pos p.log in
