@@ -9,7 +9,7 @@ use Rattle.ck_words.specs.Buddies.{Piece, piece, Arena, IsOut, Covers, IsWordOut
 use Rattle.ck_words.proofs.Ancestors.{ancestor-le, ancestor-ancestor, ancestor-is, whole_below, none_below_out}
 use Rattle.ck_words.proofs.Pieces.{IsRangeOf, IsNodeOut, range_of_place, place_of_range, row_size, one_piece, out_node, node_out}
 
-lt_or_ge : (a b : ℕ) → (a < b) ⊎ (b ≤ a)
+pub lt_or_ge : (a b : ℕ) → (a < b) ⊎ (b ≤ a)
 lt_or_ge a b = grind (arith, cases_eq)
 
 module _ (first log_len log_min : ℕ) where
@@ -38,7 +38,7 @@ module _ (first log_len log_min : ℕ) where
       ∙ covered q j w range_q covers_q
 
   -- the m-th piece of a row lies within the arena
-  placed : (p : Piece) (node : ℕ) → range_of p node → (n : ℕ) × ((p.at ≡ first + n * 2 ^ p.log) × (p.at + 2 ^ p.log ≤ first + 2 ^ log_len))
+  pub placed : (p : Piece) (node : ℕ) → range_of p node → (n : ℕ) × ((p.at ≡ first + n * 2 ^ p.log) × (p.at + 2 ^ p.log ≤ first + 2 ^ log_len))
   placed p node range =
       let at = place_of_range first log_len log_min p range.least range.most node range in
       let size = row_size log_len p.log range.most in
@@ -50,13 +50,13 @@ module _ (first log_len log_min : ℕ) where
 
 
   module _ (h : List ℕ) (consistent : IsConsistent h) (nodes : length h ≡ 2 * 2 ^ (log_len - log_min)) (shortest : log_min ≤ log_len) where
-    even : length h % 2 ≡ 0
+    pub even : length h % 2 ≡ 0
     even = omega arith
 
     abbrev arena : Arena
     arena = arena_of first log_len log_min h
 
-    in_tree : (p : Piece) (node : ℕ) → range_of p node → (1 ≤ node) × (node < length h)
+    pub in_tree : (p : Piece) (node : ℕ) → range_of p node → (1 ≤ node) × (node < length h)
     in_tree p node range =
         let at = place_of_range first log_len log_min p range.least range.most node range in
         let within = at.1.0 in
