@@ -8,6 +8,7 @@ use Rattle.std.proofs.lemmas.Nat.{pow_pos, pow-add}
 use Rattle.std.proofs.Math.Nat.{pow-suc, mul-le-mul_right, mul-le-mul_left, le_of_mul-le-mul_right, eq_of_mul-eq-mul_right, pow-le-pow_right}
 use Rattle.std.specs.List.{Contains}
 use Rattle.std.specs.FinSet as set
+use Rattle.ck_words.specs.Tree.{TakesOut, PutsBack}
 use Rattle.ck_words.specs.Buddies.{Piece, piece, piece_cmp, Arena, with_out, IsOut, out_in_row, out_in_rows, arena_of}
 use Rattle.ck_words.proofs.Members.{same_piece, same_members, listed, lists, out_insert, insert_itself, insert_keeps, out_remove, remove_keeps}
 
@@ -167,9 +168,9 @@ module _ (h : List ℕ) (first log_len log_min : ℕ) where
       lists _ p (out_rows (suc log_len - log_min) p (omega arith) node is)
 
 -- a node that wasn't out is now
-pub out_more : (old new : List ℕ) (first log_len log_min : ℕ) (p : Piece) (node : ℕ) → log_min ≤ log_len → IsRangeOf first log_len log_min p node → ((i : ℕ) → slice_index new i ≡ 26 → (i ≡ node) ⊎ (slice_index old i ≡ 26)) → ((i : ℕ) → (i ≡ node) ⊎ (slice_index old i ≡ 26) → slice_index new i ≡ 26) → arena_of first log_len log_min new ≡ with_out (arena_of first log_len log_min old) (set.insert ((arena_of first log_len log_min old).out) p)
+pub out_more : (old new : List ℕ) (first log_len log_min : ℕ) (p : Piece) (node : ℕ) → log_min ≤ log_len → IsRangeOf first log_len log_min p node → TakesOut old new node → arena_of first log_len log_min new ≡ with_out (arena_of first log_len log_min old) (set.insert ((arena_of first log_len log_min old).out) p)
 unfolding arena_of
-out_more old new first log_len log_min p node shortest range now was = ap (with_out (arena_of first log_len log_min old)) (same_members _ _ to from)
+out_more old new first log_len log_min p node shortest range change = ap (with_out (arena_of first log_len log_min old)) (same_members _ _ to from)
   where
     set_of : List ℕ → set.FinSet piece_cmp
     set_of h = (arena_of first log_len log_min h).out
@@ -177,7 +178,7 @@ out_more old new first log_len log_min p node shortest range now was = ap (with_
     to : (q : Piece) → set.contains (set_of new) q ≡ true → set.contains (set.insert (set_of old) p) q ≡ true
     to q is_out =
         let at = out_node new first log_len log_min q is_out shortest in
-        elim (now at.0 at.1.out) [
+        elim (change.now at.0 at.1.out) [
           | inl same ↦ subst (λ x. set.contains (set.insert (set_of old) p) x ≡ true) (one_piece first log_len log_min p q at.0 (subst (IsRangeOf first log_len log_min p) (sym same) range) at.1.range) (insert_itself (set_of old) p)
           | inr out ↦ insert_keeps (set_of old) p q (node_out old first log_len log_min q at.0 (record { range = at.1.range; out = out }))
         ]
@@ -185,14 +186,14 @@ out_more old new first log_len log_min p node shortest range now was = ap (with_
     from : (q : Piece) → set.contains (set.insert (set_of old) p) q ≡ true → set.contains (set_of new) q ≡ true
     from q is_out =
         elim (out_insert (set_of old) p q is_out) [
-          | inl same ↦ subst (λ x. set.contains (set_of new) x ≡ true) (sym same) (node_out new first log_len log_min p node (record { range = range; out = was node (inl refl) }))
-          | inr out ↦ let at = out_node old first log_len log_min q out shortest in node_out new first log_len log_min q at.0 (record { range = at.1.range; out = was at.0 (inr at.1.out) })
+          | inl same ↦ subst (λ x. set.contains (set_of new) x ≡ true) (sym same) (node_out new first log_len log_min p node (record { range = range; out = change.was node (inl refl) }))
+          | inr out ↦ let at = out_node old first log_len log_min q out shortest in node_out new first log_len log_min q at.0 (record { range = at.1.range; out = change.was at.0 (inr at.1.out) })
         ]
 
 -- a node that was out isn't now
-pub out_less : (old new : List ℕ) (first log_len log_min : ℕ) (p : Piece) (node : ℕ) → log_min ≤ log_len → IsRangeOf first log_len log_min p node → ((i : ℕ) → slice_index new i ≡ 26 → (i ≢ node) × (slice_index old i ≡ 26)) → ((i : ℕ) → i ≢ node → slice_index old i ≡ 26 → slice_index new i ≡ 26) → arena_of first log_len log_min new ≡ with_out (arena_of first log_len log_min old) (set.remove ((arena_of first log_len log_min old).out) p)
+pub out_less : (old new : List ℕ) (first log_len log_min : ℕ) (p : Piece) (node : ℕ) → log_min ≤ log_len → IsRangeOf first log_len log_min p node → PutsBack old new node → arena_of first log_len log_min new ≡ with_out (arena_of first log_len log_min old) (set.remove ((arena_of first log_len log_min old).out) p)
 unfolding arena_of
-out_less old new first log_len log_min p node shortest range now was = ap (with_out (arena_of first log_len log_min old)) (same_members _ _ to from)
+out_less old new first log_len log_min p node shortest range change = ap (with_out (arena_of first log_len log_min old)) (same_members _ _ to from)
   where
     set_of : List ℕ → set.FinSet piece_cmp
     set_of h = (arena_of first log_len log_min h).out
@@ -200,7 +201,7 @@ out_less old new first log_len log_min p node shortest range now was = ap (with_
     to : (q : Piece) → set.contains (set_of new) q ≡ true → set.contains (set.remove (set_of old) p) q ≡ true
     to q is_out =
         let at = out_node new first log_len log_min q is_out shortest in
-        let out = now at.0 at.1.out in
+        let out = change.now at.0 at.1.out in
         remove_keeps (set_of old) p q
         (λ same. out.0 (one_node first log_len log_min q at.0 node at.1.range (subst (λ x. IsRangeOf first log_len log_min x node) (sym same) range)))
         (node_out old first log_len log_min q at.0 (record { range = at.1.range; out = out.1 }))
@@ -209,4 +210,4 @@ out_less old new first log_len log_min p node shortest range now was = ap (with_
     from q is_out =
         let out = out_remove (set_of old) p q is_out in
         let at = out_node old first log_len log_min q out.1 shortest in
-        node_out new first log_len log_min q at.0 (record { range = at.1.range; out = was at.0 (λ same. out.0 (one_piece first log_len log_min q p node (subst (IsRangeOf first log_len log_min q) same at.1.range) range)) at.1.out })
+        node_out new first log_len log_min q at.0 (record { range = at.1.range; out = change.was at.0 (λ same. out.0 (one_piece first log_len log_min q p node (subst (IsRangeOf first log_len log_min q) same at.1.range) range)) at.1.out })

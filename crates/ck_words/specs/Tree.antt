@@ -1,5 +1,5 @@
 -- The tree over an arena of buddies, as the list of its nodes' halvings.
-use Rattle.std.specs.Prelude.{◌≡◌, ◌≢◌, ℕ, zero, suc, ◌+◌, ◌*◌, ◌/◌, ◌<◌, ◌≤◌, ◌↔◌, List, length, slice_index, min, nat_eq, if◌then◌else◌}
+use Rattle.std.specs.Prelude.{◌≡◌, ◌≢◌, ℕ, zero, suc, ◌+◌, ◌*◌, ◌/◌, ◌<◌, ◌≤◌, ◌↔◌, ◌⊎◌, List, length, slice_index, min, nat_eq, if◌then◌else◌}
 
 -- the halvings of a node that isn't out, from those of its halves: 0 where both are free whole
 abbrev pub joined_halvings : ℕ → ℕ → ℕ
@@ -31,3 +31,13 @@ NoneOutFrom halvings i = (up : ℕ) → 1 ≤ ancestor up i → slice_index halv
 -- the same nodes are out
 abbrev pub SameOut : List ℕ → List ℕ → Type 0
 SameOut old new = (i : ℕ) → (slice_index new i ≡ 26) ↔ (slice_index old i ≡ 26)
+
+-- the node is out now, and else the same nodes are
+pub record TakesOut (old new : List ℕ) (node : ℕ) : Type 0 where
+  pub now : (i : ℕ) → slice_index new i ≡ 26 → (i ≡ node) ⊎ (slice_index old i ≡ 26)
+  pub was : (i : ℕ) → (i ≡ node) ⊎ (slice_index old i ≡ 26) → slice_index new i ≡ 26
+
+-- the node isn't out now, and else the same nodes are
+pub record PutsBack (old new : List ℕ) (node : ℕ) : Type 0 where
+  pub now : (i : ℕ) → slice_index new i ≡ 26 → (i ≢ node) × (slice_index old i ≡ 26)
+  pub was : (i : ℕ) → i ≢ node → slice_index old i ≡ 26 → slice_index new i ≡ 26

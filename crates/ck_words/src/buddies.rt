@@ -6,7 +6,38 @@ ghost use Rattle.ck_words.specs.Buddies.{Arena, Piece, piece, with_out, IsOut, I
 use std::alloc::{AllocError, Global};
 use std::marker::Model;
 
-use crate::tree::{OUT, descend, rise};
+use crate::tree::{descend, put_back, take_out};
+
+/// The length of a piece in words.
+fn words_of(log: u64) -> u64
+    requires { log < 64 }
+    ensures { result ≡ 2 ^ log }
+{
+    1 << log
+}
+
+/// The place of a node's range.
+fn place_of(first: u64, log_len: u64, node: usize, log: u64) -> u64
+    requires place { first ≤ 2 ^ 32 }
+    requires most { log_len ≤ 24 }
+    requires piece { log ≤ log_len }
+    requires from { 2 ^ log_len ≤ node * 2 ^ log }
+    requires to { (node + 1) * 2 ^ log ≤ 2 * 2 ^ log_len }
+    ensures { result + 2 ^ log_len ≡ first + node * 2 ^ log }
+{
+    first + (node as u64 * words_of(log) - words_of(log_len))
+}
+
+/// The node whose range is the piece.
+fn node_of(first: u64, log_len: u64, at: u64, log: u64) -> usize
+    requires most { log_len ≤ 24 }
+    requires piece { log ≤ log_len }
+    requires from { first ≤ at }
+    requires to { at < first + 2 ^ log_len }
+    ensures { result ≡ (2 ^ log_len + (at - first)) / 2 ^ log }
+{
+    ((words_of(log_len) + (at - first)) >> log) as usize
+}
 
 /// An arena of `2 ^ log_len` words from word `first` on, in pieces of `2 ^ log_min` words and more.
 /// The length of a piece is a power of two, and its distance from `first` a multiple of its length.
@@ -47,7 +78,7 @@ impl Buddies {
             first,
             log_len,
             log_min,
-            free: 1 << log_len,
+            free: words_of(log_len),
             halvings: vec![in alloc; 0; nodes]?,
         })
     }
@@ -70,10 +101,9 @@ impl Buddies {
             return None;
         }
         let node = descend(&self.halvings, depth);
-        self.halvings[node] = OUT;
-        rise(&mut self.halvings, node);
-        self.free -= 1 << log;
-        Some(self.first + ((node as u64) << log) - (1 << self.log_len))
+        take_out(&mut self.halvings, node);
+        self.free -= words_of(log);
+        Some(place_of(self.first, self.log_len, node, log))
     }
 
     /// Takes back the piece of `2 ^ log` words at `at`, which is out. It is merged with its buddy,
@@ -83,10 +113,9 @@ impl Buddies {
         ensures is_back { self.new ≡ with_out self.old (set.remove self.old.out (piece at log)) }
         ensures apart { IsApart self.new }
     {
-        let node = (((1 << self.log_len) + at - self.first) >> log) as usize;
-        self.halvings[node] = 0;
-        rise(&mut self.halvings, node);
-        self.free += 1 << log;
+        let node = node_of(self.first, self.log_len, at, log);
+        put_back(&mut self.halvings, node);
+        self.free += words_of(log);
     }
 
     /// The number of words that are free.

@@ -2,13 +2,13 @@
 //! nodes `2 i` and `2 i + 1`. Each node has one number, its halvings: how many times its range must
 //! be halved to reach the longest range in it that is free. 0 says that the node is free whole.
 ghost use Rattle.std.specs.Prelude.{◌≡◌, ◌≢◌, ℕ, ◌+◌, ◌-◌, ◌*◌, ◌/◌, ◌%◌, ◌^◌, ◌<◌, ◌≤◌, length, slice_index};
-ghost use Rattle.ck_words.specs.Tree.{joined_halvings, IsConsistentBut, IsConsistent, NoneOutFrom, SameOut};
+ghost use Rattle.ck_words.specs.Tree.{joined_halvings, IsConsistentBut, IsConsistent, NoneOutFrom, SameOut, TakesOut, PutsBack};
 
 /// The halvings of a node in which nothing is free.
-pub const FULL: u8 = 25;
+const FULL: u8 = 25;
 
 /// The halvings of a node whose range is one piece that is out.
-pub const OUT: u8 = 26;
+const OUT: u8 = 26;
 
 /// The halvings of a node that isn't out, from those of its halves.
 fn joined(left: u8, right: u8) -> u8
@@ -22,7 +22,7 @@ fn joined(left: u8, right: u8) -> u8
 }
 
 /// Counts the nodes above `node` anew, up to the first that stays as it was.
-pub fn rise(halvings: &mut [u8], mut node: usize)
+fn rise(halvings: &mut [u8], mut node: usize)
     requires above_root { 1 ≤ node }
     requires in_tree { node < length halvings.old }
     requires even { length halvings.old % 2 ≡ 0 }
@@ -81,4 +81,33 @@ pub fn descend(halvings: &[u8], depth: u64) -> usize
         node = fitting_half(halvings, node, spare);
     }
     node << spare
+}
+
+/// Takes a node out that is free whole and lies below no piece that is out.
+pub fn take_out(halvings: &mut [u8], node: usize)
+    requires positive { 1 ≤ node }
+    requires in_tree { node < length halvings.old }
+    requires even { length halvings.old % 2 ≡ 0 }
+    requires consistent { IsConsistent halvings.old }
+    requires whole { slice_index halvings.old node ≡ 0 }
+    requires path { NoneOutFrom halvings.old node }
+    ensures consistent { IsConsistent halvings.new }
+    ensures out { TakesOut halvings.old halvings.new node }
+{
+    halvings[node] = OUT;
+    rise(halvings, node);
+}
+
+/// Puts a node back that is out.
+pub fn put_back(halvings: &mut [u8], node: usize)
+    requires positive { 1 ≤ node }
+    requires in_tree { node < length halvings.old }
+    requires even { length halvings.old % 2 ≡ 0 }
+    requires consistent { IsConsistent halvings.old }
+    requires is_out { slice_index halvings.old node ≡ 26 }
+    ensures consistent { IsConsistent halvings.new }
+    ensures out { PutsBack halvings.old halvings.new node }
+{
+    halvings[node] = 0;
+    rise(halvings, node);
 }
