@@ -44,10 +44,10 @@ ancestor-is zero i above from to = omega arith
 ancestor-is (suc up) i above from to =
     ancestor-is up (i / 2) above (half_from above (2 ^ up) i (rw (pow-suc 2 up) at from)) (half_to above (2 ^ up) i (rw (pow-suc 2 up) at to))
 
-joined_whole : (left right : ℕ) → joined_halvings left right ≡ 0 → (left ≡ 0) × (right ≡ 0)
+pub joined_whole : (left right : ℕ) → joined_halvings left right ≡ 0 → (left ≡ 0) × (right ≡ 0)
 joined_whole left right whole = (grind (arith, nat_tests), grind (arith, nat_tests))
 
-halves_whole : (h : List ℕ) (i : ℕ) → IsConsistentAt h i → 2 * i + 1 < length h → slice_index h i ≡ 0 → (slice_index h (2 * i) ≡ 0) × (slice_index h (2 * i + 1) ≡ 0)
+pub halves_whole : (h : List ℕ) (i : ℕ) → IsConsistentAt h i → 2 * i + 1 < length h → slice_index h i ≡ 0 → (slice_index h (2 * i) ≡ 0) × (slice_index h (2 * i + 1) ≡ 0)
 halves_whole h i at inner whole = joined_whole _ _ (sym (at.joined inner (λ e. omega (arith, e, whole))) ∙ whole)
 
 -- a half of a node is one of its two halves

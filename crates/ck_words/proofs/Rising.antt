@@ -4,6 +4,7 @@ use Rattle.std.proofs.lemmas.Grind.{common_steps, get_or-set_at}
 use Rattle.std.proofs.lemmas.Bool.{cases_eq}
 use Rattle.std.proofs.lemmas.Bool.Decides.{nat_tests}
 use Rattle.ck_words.specs.Tree.{joined_halvings, IsConsistentAt, IsConsistentBut, IsConsistent, NoneOutFrom, SameOut, ancestor}
+use Rattle.ck_words.proofs.Ancestors.{ancestor-le}
 
 -- what holds each time the loop begins: the node has the value, and all nodes but the one above it are consistent
 pub record IsRising (old halvings : List ℕ) (node known : ℕ) : Type 0 where
@@ -48,16 +49,12 @@ consistent_joined h p v positive inner is =
       leaf = λ outer _. absurd (omega (arith, long, outer));
     }
 
-pub ancestor-le : (up i : ℕ) → ancestor up i ≤ i
-ancestor-le zero i = omega arith
-ancestor-le (suc up) i = let above = ancestor-le up (i / 2) in omega arith
-
--- neither a node nor any above it is out, also after a write to it
-pub path_above : (h : List ℕ) (p v : ℕ) → 1 ≤ p → NoneOutFrom h p → NoneOutFrom (set h p v) (p / 2)
-path_above h p v positive path up in_tree =
+-- none above a node is out, also after a write to it
+pub path_kept : (h : List ℕ) (p v : ℕ) → 1 ≤ p → NoneOutFrom h (p / 2) → NoneOutFrom (set h p v) (p / 2)
+path_kept h p v positive path up in_tree =
     let below = ancestor-le up (p / 2) in
     let other : ancestor up (p / 2) ≢ p = omega arith in
-    rw get_or-set_other (path (suc up) in_tree)
+    rw get_or-set_other (path up in_tree)
 
 -- a write of what isn't out to a node that isn't out
 pub same_out-set : (old h : List ℕ) (p v : ℕ) → p < length h → SameOut old h → slice_index h p ≢ 26 → v ≢ 26 → SameOut old (set h p v)
@@ -129,7 +126,7 @@ module _ (old h : List ℕ) (node known : ℕ) (was : IsRising old h node known)
         even = rw length-set was.even;
         value = sym (get_or-set_same h p v 0 parent_within);
         others = consistent_but;
-        path = path_above h p v parent_positive path_from_parent;
+        path = path_kept h p v parent_positive (λ up in_tree. path_from_parent (suc up) in_tree);
         out = same_out-set old h p v parent_within was.out (path_from_parent zero parent_positive) ne_out;
       }
 
