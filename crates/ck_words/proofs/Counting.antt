@@ -118,3 +118,16 @@ free_words-empty a empty = all (2 ^ a.log_len)
     all : (n : ℕ) → free_below a n ≡ n
     all zero = refl
     all (suc n) = let before = all n in let one = ap ones (none (a.first + n)) in omega (arith, before, one)
+
+ones-le : (b : Bool) → ones b ≤ 1
+ones-le true = omega arith
+ones-le false = omega arith
+
+free_below-le : (a : Arena) (n : ℕ) → free_below a n ≤ n
+free_below-le a zero = omega arith
+free_below-le a (suc n) = let before = free_below-le a n in let one = ones-le (is_word_out a (a.first + n)) in omega arith
+
+-- no more words are free than the arena has
+pub free_words-le : (a : Arena) → free_words a ≤ 2 ^ a.log_len
+unfolding free_words
+free_words-le a = free_below-le a (2 ^ a.log_len)

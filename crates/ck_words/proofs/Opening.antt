@@ -1,0 +1,52 @@
+-- An arena in which nothing is out.
+use Rattle.std.proofs.Common.{◌≡◌, ◌≢◌, ℕ, Bool, true, false, ◌+◌, ◌-◌, ◌*◌, ◌^◌, ◌<◌, ◌≤◌, List, length, get_or, slice_index, nat_eq, arith, refl, sym, ap, subst, ◌∙◌, true≢false}
+use Rattle.std.proofs.lemmas.Bool.Decides.{nat_tests}
+use Rattle.std.proofs.Math.Nat.{pow-le-pow_right}
+use Rattle.std.proofs.Math.ListN.{replicate}
+use Rattle.std.proofs.lemmas.List.{get_or-replicate, length-replicate}
+use Rattle.std.specs.FinSet as set
+use Rattle.ck_words.specs.Tree.{joined_halvings, IsConsistentAt, IsConsistent}
+use Rattle.ck_words.specs.Buddies.{Piece, piece_cmp, Arena, with_out, IsOut, free_words, arena_of, IsArenaOf}
+use Rattle.ck_words.proofs.Members.{same_members}
+use Rattle.ck_words.proofs.Pieces.{IsRangeOf, IsNodeOut, out_node, place_of_range}
+use Rattle.ck_words.proofs.Counting.{free_words-empty}
+
+joined_zeros : (here left right : ℕ) → here ≡ 0 → left ≡ 0 → right ≡ 0 → here ≡ joined_halvings left right
+joined_zeros here left right h l r = grind (arith, nat_tests)
+
+module _ (h : List ℕ) (zeros : (i : ℕ) → slice_index h i ≡ 0) where
+  all_whole : IsConsistent h
+  all_whole i positive within = record {
+    out = λ _ e. absurd (omega (arith, zeros i, e));
+    joined = λ _ _. joined_zeros (slice_index h i) (slice_index h (2 * i)) (slice_index h (2 * i + 1)) (zeros i) (zeros (2 * i)) (zeros (2 * i + 1));
+    leaf = λ _ ne. absurd (ne (zeros i));
+  }
+
+  module _ (first log_len log_min : ℕ) (shortest : log_min ≤ log_len) where
+    none_out : (p : Piece) → IsOut (arena_of first log_len log_min h) p → set.contains (set.empty {R = piece_cmp}) p ≡ true
+    none_out p is_out =
+        let at = out_node h first log_len log_min p is_out shortest in
+        let out = at.1.out in
+        absurd (omega (arith, zeros at.0, out))
+
+    nothing : (p : Piece) → set.contains (set.empty {R = piece_cmp}) p ≡ true → IsOut (arena_of first log_len log_min h) p
+    nothing p in_empty = absurd (true≢false (sym in_empty ∙ set.contains-empty piece_cmp p))
+
+    empty : (arena_of first log_len log_min h).out ≡ set.empty {R = piece_cmp}
+    empty = same_members _ _ none_out nothing
+
+    pub opened : arena_of first log_len log_min h ≡ record { first = first; log_len = log_len; log_min = log_min; out = set.empty }
+    unfolding arena_of
+    opened = ap (with_out (arena_of first log_len log_min h)) empty
+
+    pub opening : (free : ℕ) → 3 ≤ log_min → log_len ≤ 24 → first ≤ 2 ^ 32 → length h ≡ 2 * 2 ^ (log_len - log_min) → free ≡ 2 ^ log_len → IsArenaOf first log_len log_min free h
+    unfolding arena_of
+    opening free least most place nodes all_free = record {
+      least = least;
+      shortest = shortest;
+      most = most;
+      place = place;
+      nodes = nodes;
+      consistent = all_whole;
+      free_is = all_free ∙ sym (free_words-empty (arena_of first log_len log_min h) empty);
+    }
