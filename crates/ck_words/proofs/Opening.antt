@@ -1,15 +1,34 @@
 -- An arena in which nothing is out.
-use Rattle.std.proofs.Common.{◌≡◌, ◌≢◌, ℕ, Bool, true, false, ◌+◌, ◌-◌, ◌*◌, ◌^◌, ◌<◌, ◌≤◌, List, length, get_or, slice_index, nat_eq, arith, refl, sym, ap, subst, ◌∙◌, true≢false}
+use Rattle.std.proofs.Common.{◌≡◌, ◌≢◌, ℕ, Bool, true, false, ◌+◌, ◌-◌, ◌*◌, ◌%◌, ◌^◌, ◌<◌, ◌≤◌, ◌⊎◌, inl, inr, List, length, get_or, slice_index, nat_eq, arith, refl, sym, ap, subst, ◌∙◌, true≢false}
 use Rattle.std.proofs.lemmas.Bool.Decides.{nat_tests}
-use Rattle.std.proofs.Math.Nat.{pow-le-pow_right}
-use Rattle.std.proofs.Math.ListN.{replicate}
+use Rattle.std.proofs.Math.Nat.{pow-le-pow_right, mod-eq_of_lt}
+use Rattle.std.proofs.Math.ListN.{replicate, get_or-eq_default}
 use Rattle.std.proofs.lemmas.List.{get_or-replicate, length-replicate}
 use Rattle.std.specs.FinSet as set
 use Rattle.ck_words.specs.Tree.{joined_halvings, IsConsistentAt, IsConsistent}
 use Rattle.ck_words.specs.Buddies.{Piece, piece_cmp, Arena, with_out, IsOut, free_words, arena_of, IsArenaOf}
 use Rattle.ck_words.proofs.Members.{same_members}
 use Rattle.ck_words.proofs.Pieces.{IsRangeOf, IsNodeOut, out_node, place_of_range}
+use Rattle.ck_words.proofs.Words.{lt_or_ge}
 use Rattle.ck_words.proofs.Counting.{free_words-empty}
+
+zero_at : (n i : ℕ) → slice_index (replicate n 0) i ≡ 0
+zero_at n i =
+    elim (lt_or_ge i n) [
+      | inl within ↦ get_or-replicate n i 0 0 within
+      | inr behind ↦ let long = length-replicate n (let z : ℕ = 0 in z) in get_or-eq_default (replicate n 0) 0 (omega arith)
+    ]
+
+-- a list of zeros, as the code makes it
+pub zeros_at : (log_len log_min : ℕ) (h : List ℕ) → log_len ≤ 24 → h ≡ replicate (2 * 2 ^ (log_len - log_min) % 2 ^ 64) 0 → (i : ℕ) → slice_index h i ≡ 0
+zeros_at log_len log_min h most is i = ap (λ x. slice_index x i) is ∙ zero_at _ i
+
+pub zeros_long : (log_len log_min : ℕ) (h : List ℕ) → log_len ≤ 24 → h ≡ replicate (2 * 2 ^ (log_len - log_min) % 2 ^ 64) 0 → length h ≡ 2 * 2 ^ (log_len - log_min)
+zeros_long log_len log_min h most is =
+    let less : log_len - log_min ≤ 24 = omega arith in
+    let bound : 2 ^ (log_len - log_min) ≤ 2 ^ 24 = pow-le-pow_right {n = 2} (omega arith) less in
+    let small : 2 * 2 ^ (log_len - log_min) < 2 ^ 64 = omega arith in
+    ap length is ∙ length-replicate _ _ ∙ mod-eq_of_lt small
 
 joined_zeros : (here left right : ℕ) → here ≡ 0 → left ≡ 0 → right ≡ 0 → here ≡ joined_halvings left right
 joined_zeros here left right h l r = grind (arith, nat_tests)

@@ -2,7 +2,11 @@
 //! words. No word is ever in two pieces that are out.
 #![tactic(auto)]
 
+mod back;
+mod blocks;
 mod buddies;
 mod tree;
 
+pub use back::Back;
+pub use blocks::Blocks;
 pub use buddies::Buddies;
