@@ -282,3 +282,47 @@ module _ (first free : ℕ) (numbers : List ℕ) (is : IsBlocksOf first free num
           distinct = given_distinct;
           counted = omega (arith, counted, less, some, size);
         }
+
+among_none : (numbers : List ℕ) (k v : ℕ) → ((i : ℕ) → i < k → slice_index numbers i ≢ v) → among numbers k v ≡ false
+among_none numbers zero v none = refl
+among_none numbers (suc k) v none = neither _ _ (ne_eqb _ _ (none k (omega arith))) (among_none numbers k v (λ i less. none i (omega arith)))
+
+among_some : (numbers : List ℕ) (k i v : ℕ) → i < k → slice_index numbers i ≡ v → among numbers k v ≡ true
+among_some numbers zero i v less is = absurd (omega (arith, less))
+among_some numbers (suc k) i v less is =
+    elim (cases_eq i k) [
+      | inl same ↦ ap (λ b. b || among numbers k v) (eq-eqb _ v (ap (slice_index numbers) (sym same) ∙ is))
+      | inr ne ↦ second_true _ _ (among_some numbers k i v (omega arith) is)
+    ]
+
+-- an arena of blocks of which all are free
+module _ (first count : ℕ) (numbers : List ℕ) (long : length numbers ≡ count) (falling : (i : ℕ) → i < count → slice_index numbers i + i + 1 ≡ count) where
+  none_out : (q : ℕ) → IsOut (blocks_of first count numbers) q → finset.contains (finset.empty {R = nat_cmp}) q ≡ true
+  none_out q is_out =
+      let found = out_number numbers count first q is_out in
+      let m = found.0 in
+      let within = found.1.within in
+      let below : m < count = omega (arith, within, long) in
+      let i = count - 1 - m in
+      let less : i < count = omega arith in
+      let value : slice_index numbers i ≡ m = let falls = falling i less in omega arith in
+      absurd (true≢false (sym (among_some numbers count i m less value) ∙ found.1.taken))
+
+  nothing : (q : ℕ) → finset.contains (finset.empty {R = nat_cmp}) q ≡ true → IsOut (blocks_of first count numbers) q
+  nothing q h = absurd (true≢false (sym h ∙ finset.contains-empty nat_cmp q))
+
+  empty : (blocks_of first count numbers).out ≡ finset.empty {R = nat_cmp}
+  empty = finset.same_set nat_cmp_total nat_cmp-IsAntisymmetric _ _ (λ q. same_test _ _ (none_out q) (nothing q))
+
+  pub blocks_opened : blocks_of first count numbers ≡ record { first = first; count = count; out = finset.empty }
+  unfolding blocks_of
+  blocks_opened = λ i. record { first = first; count = long i; out = empty i }
+
+  pub blocks_opening : first + 8 * count ≤ 2 ^ 32 → IsBlocksOf first count numbers
+  blocks_opening place = record {
+    place = subst (λ n. first + 8 * n ≤ 2 ^ 32) (sym long) place;
+    free_le = omega arith;
+    within = λ i less. let falls = falling i less in omega arith;
+    distinct = λ i less. among_none numbers i (slice_index numbers i) (λ j before e. let falls = falling i less in let falls' = falling j (omega arith) in omega (arith, falls, falls', e, before));
+    counted = let none = ap finset.len empty ∙ finset.len-empty nat_cmp in omega (arith, none, long);
+  }
