@@ -1,10 +1,10 @@
 -- What taking and giving change of an arena.
-use Rattle.std.proofs.Common.{◌≡◌, ◌≢◌, ℕ, zero, suc, ◌⊎◌, inl, inr, ◌+◌, ◌-◌, ◌*◌, ◌/◌, ◌%◌, ◌^◌, ◌<◌, ◌≤◌, List, length, slice_index, arith, refl, sym, ap, subst, ◌∙◌}
+use Rattle.std.proofs.Common.{◌≡◌, ◌≢◌, ℕ, zero, suc, ◌⊎◌, inl, inr, ◌+◌, ◌-◌, ◌*◌, ◌/◌, ◌%◌, ◌^◌, ◌<◌, ◌≤◌, List, length, slice_index, arith, refl, sym, ap, subst, ◌∙◌, true≢false}
 use Rattle.std.proofs.lemmas.Nat.{pow_pos}
 use Rattle.std.proofs.Math.Nat.{pow-le-pow_right, mul-le-mul_right, div-eq_of_eq-mul_right}
 use Rattle.std.specs.FinSet as set
 use Rattle.ck_words.specs.Tree.{IsConsistent, NoneOutFrom, TakesOut, PutsBack}
-use Rattle.ck_words.specs.Buddies.{Piece, piece, Arena, with_out, IsOut, IsPlaced, IsFree, IsApart, HasWordOut, free_words, arena_of, IsArenaOf}
+use Rattle.ck_words.specs.Buddies.{Piece, piece, piece_cmp, Arena, with_out, IsOut, IsPlaced, IsFree, IsApart, HasWordOut, free_words, arena_of, IsArenaOf}
 use Rattle.ck_words.proofs.Pieces.{IsRangeOf, IsNodeOut, row_size, out_node, out_more, out_less}
 use Rattle.ck_words.proofs.Words.{placed, in_tree, even, apart, free_of_whole}
 use Rattle.ck_words.proofs.Full.{none_free}
@@ -169,3 +169,10 @@ module _ (first log_len log_min free : ℕ) (h : List ℕ) (is : IsArenaOf first
 
 pub out_seen : (first log_len log_min : ℕ) (h : List ℕ) (a : Arena) → arena_of first log_len log_min h ≡ a → (p : Piece) → IsOut a p → IsOut (arena_of first log_len log_min h) p
 out_seen first log_len log_min h a view p is_out = subst (λ x. IsOut x p) (sym view) is_out
+
+-- where nothing is out, the first range of a length has no word that is out
+pub none_where_empty : (a : Arena) (log : ℕ) → log ≤ a.log_len → a.out ≡ set.empty → ((at : ℕ) → IsPlaced a (piece at log) → HasWordOut a (piece at log)) → ⊥
+none_where_empty a log most empty has_out =
+    let length : 2 ^ log ≤ 2 ^ a.log_len = pow-le-pow_right {n = 2} (omega arith) most in
+    let has = has_out a.first (0, (omega arith, omega arith)) in
+    true≢false (sym has.1.1.1.0 ∙ ap (λ s. set.contains s has.1.1.0) empty ∙ set.contains-empty piece_cmp has.1.1.0)

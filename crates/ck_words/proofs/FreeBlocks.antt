@@ -8,22 +8,14 @@ use Rattle.std.specs.Cmp.{nat_cmp_total, Equal-is, eq_by_cmp_equiv}
 use Rattle.std.specs.List.{list_any}
 use Rattle.std.specs.FinSet as finset
 use Rattle.std.specs.FinSet.{nat_cmp-IsAntisymmetric}
-use Rattle.ck_words.specs.Blocks.{BlockArena, with_out, IsOut, IsBlock, IsApart, Covers, among, out_places, blocks_of, IsBlocksOf}
-use Rattle.ck_words.proofs.Members.{same_test}
+use Rattle.ck_words.specs.Blocks.{BlockArena, with_out, IsOut, IsBlock, IsApart, Covers, among, out_places, blocks_of, IsBlocksOf, AddsBlock, DropsBlock}
+use Rattle.ck_words.proofs.Members.{same_test, either, second_true, both, true_not, not_true}
 
 tie_exact : (x y : ℕ) → eq_by_cmp nat_cmp x y ≡ true → x ≡ y
 tie_exact x y tie = nat_cmp-IsAntisymmetric x y ((Equal-is (nat_cmp x y)).0 tie)
 
 tie_itself : (x : ℕ) → eq_by_cmp nat_cmp x x ≡ true
 tie_itself x = (eq_by_cmp_equiv nat_cmp_total).refl x
-
-either : (a b : Bool) → (a || b) ≡ true → (a ≡ true) ⊎ (b ≡ true)
-either true b h = inl refl
-either false b h = inr h
-
-second_true : (a b : Bool) → b ≡ true → (a || b) ≡ true
-second_true true b h = refl
-second_true false b h = h
 
 -- one of the first k numbers, before a write behind them and after it
 pub among-set : (numbers : List ℕ) (k i v n : ℕ) → k ≤ i → among (set numbers i v) k n ≡ among numbers k n
@@ -99,9 +91,9 @@ module _ (numbers : List ℕ) (free first : ℕ) where
   unfolding blocks_of
   all_out none at is_block = number_out at is_block.0 (record { within = is_block.1.0; place = is_block.1.1; taken = ap (λ k. among numbers k is_block.0) none })
 
-not_true : (b : Bool) → (b ≡ true → ⊥) → b ≡ false
-not_true true = λ no. absurd (no refl)
-not_true false = λ no. refl
+false_of : (b : Bool) → (b ≡ true → ⊥) → b ≡ false
+false_of true = λ no. absurd (no refl)
+false_of false = λ no. refl
 
 neither : (a b : Bool) → a ≡ false → b ≡ false → (a || b) ≡ false
 neither a b p q = (λ i. p i || b) ∙ q
@@ -113,10 +105,6 @@ second_false false b h = h
 first_false : (a b : Bool) → (a || b) ≡ false → a ≡ false
 first_false true b h = h
 first_false false b h = refl
-
-both : (a b : Bool) → (a && b) ≡ true → (a ≡ true) × (b ≡ true)
-both true b h = (refl, h)
-both false b h = absurd (true≢false (sym h))
 
 not_not : (a : Bool) → not a ≡ true → a ≡ false
 not_not true h = absurd (true≢false (sym h))
@@ -174,7 +162,7 @@ module _ (first free : ℕ) (numbers : List ℕ) (is : IsBlocksOf first (suc fre
       let counted = is.counted in
       let free_le = is.free_le in
       let more : finset.len ((blocks_of first free numbers).out) ≡ finset.len (before.out) + 1 =
-          ap finset.len taken_set ∙ finset.len-insert nat_cmp_total (before.out) at ∙ ap (λ b. if b then finset.len (before.out) else finset.len (before.out) + 1) (not_true _ taken_was_free) in
+          ap finset.len taken_set ∙ finset.len-insert nat_cmp_total (before.out) at ∙ ap (λ b. if b then finset.len (before.out) else finset.len (before.out) + 1) (false_of _ taken_was_free) in
       record {
         place = is.place;
         free_le = omega arith;
@@ -233,7 +221,7 @@ module _ (first free : ℕ) (numbers : List ℕ) (is : IsBlocksOf first free num
         let place_now = now.1.place in
         let there : q ≢ at = λ e. other (omega arith) in
         finset.contains-remove nat_cmp_total (was.out) at q
-        ∙ (λ i. not (not_true _ (λ tie. there (tie_exact q at tie)) i) && finset.contains (was.out) q)
+        ∙ (λ i. not (false_of _ (λ tie. there (tie_exact q at tie)) i) && finset.contains (was.out) q)
         ∙ number_out numbers free first q now.0 (record { within = subst (λ n. now.0 < n) long now.1.within; place = place_now; taken = second_false _ _ parts })
 
     now_out : (q : ℕ) → finset.contains (finset.remove (was.out) at) q ≡ true → IsOut (blocks_of first (suc free) written) q
@@ -326,3 +314,19 @@ module _ (first count : ℕ) (numbers : List ℕ) (long : length numbers ≡ cou
     distinct = λ i less. among_none numbers i (slice_index numbers i) (λ j before e. let falls = falling i less in let falls' = falling j (omega arith) in omega (arith, falls, falls', e, before));
     counted = let none = ap finset.len empty ∙ finset.len-empty nat_cmp in omega (arith, none, long);
   }
+
+pub adds : (a : BlockArena) (at : ℕ) → AddsBlock a (with_out a (finset.insert a.out at)) at
+adds a at q =
+    (λ h. elim (either _ _ (sym (finset.contains-insert nat_cmp_total a.out at q) ∙ h)) [ inl tie ↦ inl (tie_exact q at tie) | inr was ↦ inr was ],
+      λ h. finset.contains-insert nat_cmp_total a.out at q
+      ∙ (elim h [
+        | inl same ↦ ap (λ b. b || finset.contains a.out q) (subst (λ x. eq_by_cmp nat_cmp q x ≡ true) same (tie_itself q))
+        | inr was ↦ second_true _ _ was
+      ]))
+
+pub drops : (a : BlockArena) (at : ℕ) → DropsBlock a (with_out a (finset.remove a.out at)) at
+drops a at q =
+    (λ h.
+        let parts = both _ _ (sym (finset.contains-remove nat_cmp_total a.out at q) ∙ h) in
+        (λ same. not_true _ parts.0 (subst (λ x. eq_by_cmp nat_cmp q x ≡ true) same (tie_itself q)), parts.1),
+      λ h. finset.contains-remove nat_cmp_total a.out at q ∙ ap (λ b. b && finset.contains a.out q) (true_not _ (λ tie. h.0 (tie_exact q at tie))) ∙ h.1)

@@ -10,7 +10,7 @@ use Rattle.std.specs.Cmp.Lexicographic.{on_texts}
 use Rattle.std.specs.List.{list_any, Contains}
 use Rattle.std.specs.FinSet as set
 use Rattle.std.specs.FinSet.{IsAntisymmetric, nat_cmp-IsAntisymmetric, slice_cmp-IsAntisymmetric}
-use Rattle.ck_words.specs.Buddies.{Piece, piece, piece_cmp, Arena, IsOut, Covers, IsWordOut, is_word_out}
+use Rattle.ck_words.specs.Buddies.{Piece, piece, piece_cmp, Arena, IsOut, Covers, IsWordOut, is_word_out, with_out, AddsPiece, DropsPiece}
 
 pub same_piece : (p q : Piece) → p.at ≡ q.at → p.log ≡ q.log → p ≡ q
 same_piece p q at log = λ i. record { at = at i; log = log i }
@@ -29,26 +29,26 @@ tie_exact p q tie = piece_exact p q ((Equal-is (piece_cmp p q)).0 tie)
 pub tie_itself : (p : Piece) → eq_by_cmp piece_cmp p p ≡ true
 tie_itself p = (eq_by_cmp_equiv piece_total).refl p
 
-either : (a b : Bool) → (a || b) ≡ true → (a ≡ true) ⊎ (b ≡ true)
+pub either : (a b : Bool) → (a || b) ≡ true → (a ≡ true) ⊎ (b ≡ true)
 either true b h = inl refl
 either false b h = inr h
 
-first_true : (a b : Bool) → a ≡ true → (a || b) ≡ true
+pub first_true : (a b : Bool) → a ≡ true → (a || b) ≡ true
 first_true a b h = ap (λ c. c || b) h
 
-second_true : (a b : Bool) → b ≡ true → (a || b) ≡ true
+pub second_true : (a b : Bool) → b ≡ true → (a || b) ≡ true
 second_true true b h = refl
 second_true false b h = h
 
-both : (a b : Bool) → (a && b) ≡ true → (a ≡ true) × (b ≡ true)
+pub both : (a b : Bool) → (a && b) ≡ true → (a ≡ true) × (b ≡ true)
 both true b h = (refl, h)
 both false b h = absurd (true≢false (sym h))
 
-not_true : (a : Bool) → not a ≡ true → a ≢ true
+pub not_true : (a : Bool) → not a ≡ true → a ≢ true
 not_true true h e = true≢false (sym h)
 not_true false h e = true≢false (sym e)
 
-true_not : (a : Bool) → a ≢ true → not a ≡ true
+pub true_not : (a : Bool) → a ≢ true → not a ≡ true
 true_not true h = absurd (h refl)
 true_not false h = refl
 
@@ -103,3 +103,13 @@ pub test-from_word_out : (a : Arena) (w : ℕ) → IsWordOut a w → is_word_out
 test-from_word_out a w h =
     let contained = Contains-from_any tie_exact h.0 (set.items a.out) (sym (set.contains-items a.out h.0) ∙ h.1.0) in
     list_any-from_Any (λ p. nat_le p.at w && nat_lt w (p.at + 2 ^ p.log)) (set.items a.out) (contained.0, h.0, contained.1, contained.2, test-from_covers h.0.at (2 ^ h.0.log) w h.1.1.0 h.1.1.1)
+
+pub adds : (a : Arena) (p : Piece) → AddsPiece a (with_out a (set.insert a.out p)) p
+adds a p q =
+    (out_insert a.out p q, λ h. elim h [
+      | inl same ↦ subst (λ x. set.contains (set.insert a.out p) x ≡ true) (sym same) (insert_itself a.out p)
+      | inr was ↦ insert_keeps a.out p q was
+    ])
+
+pub drops : (a : Arena) (p : Piece) → DropsPiece a (with_out a (set.remove a.out p)) p
+drops a p q = (out_remove a.out p q, λ h. remove_keeps a.out p q h.0 h.1)

@@ -1,5 +1,5 @@
 -- What is seen of an arena of blocks of 8 words: where it lies, and the places of the blocks that are out.
-use Rattle.std.specs.Prelude.{◌≡◌, ℕ, zero, suc, ◌+◌, ◌*◌, ◌^◌, ◌<◌, ◌≤◌, ◌||◌, Bool, true, false, List, [], ◌∷◌, length, slice_index, nat_eq, if◌then◌else◌, refl}
+use Rattle.std.specs.Prelude.{◌≡◌, ℕ, zero, suc, ◌+◌, ◌*◌, ◌^◌, ◌<◌, ◌≤◌, ◌⊎◌, ◌≢◌, ◌↔◌, ◌||◌, Bool, true, false, List, [], ◌∷◌, length, slice_index, nat_eq, if◌then◌else◌, refl}
 use Rattle.std.specs.Ordering.{nat_cmp}
 use Rattle.std.specs.Coded.{Coded, code_by, coded×, coded_ℕ}
 use Rattle.std.specs.FinSet as set
@@ -40,6 +40,14 @@ Covers at w = (at ≤ w) × (w < at + 8)
 pub record IsApart (a : BlockArena) : Type 0 where
   pub placed : (at : ℕ) → IsOut a at → IsBlock a at
   pub one : (w at other : ℕ) → IsOut a at → IsOut a other → Covers at w → Covers other w → at ≡ other
+
+-- a block is out of the new arena exactly where it is this one or was out of the old one
+abbrev pub AddsBlock : BlockArena → BlockArena → ℕ → Type 0
+AddsBlock old new at = (q : ℕ) → IsOut new q ↔ ((q ≡ at) ⊎ IsOut old q)
+
+-- a block is out of the new arena exactly where it isn't this one and was out of the old one
+abbrev pub DropsBlock : BlockArena → BlockArena → ℕ → Type 0
+DropsBlock old new at = (q : ℕ) → IsOut new q ↔ ((q ≢ at) × IsOut old q)
 
 -- whether the number is one of the first k numbers
 abbrev pub among : List ℕ → ℕ → ℕ → Bool

@@ -1,5 +1,5 @@
 -- What is seen of an arena of buddies: where it lies, and the pieces that are out.
-use Rattle.std.specs.Prelude.{◌≡◌, ℕ, zero, suc, ◌+◌, ◌-◌, ◌*◌, ◌^◌, ◌<◌, ◌≤◌, ◌&&◌, Bool, true, List, [], ◌∷◌, ◌++◌, length, slice_index, nat_eq, nat_le, nat_lt, if◌then◌else◌, refl}
+use Rattle.std.specs.Prelude.{◌≡◌, ℕ, zero, suc, ◌+◌, ◌-◌, ◌*◌, ◌^◌, ◌<◌, ◌≤◌, ◌⊎◌, ◌≢◌, ◌↔◌, ◌&&◌, Bool, true, List, [], ◌∷◌, ◌++◌, length, slice_index, nat_eq, nat_le, nat_lt, if◌then◌else◌, refl}
 use Rattle.std.specs.declared.cmp.Ordering.{Ordering}
 use Rattle.std.specs.Ordering.{nat_cmp}
 use Rattle.std.specs.Cmp.Lexicographic.{slice_cmp}
@@ -74,6 +74,14 @@ IsPlaced a p = (n : ℕ) × ((p.at ≡ a.first + n * 2 ^ p.log) × (p.at + 2 ^ p
 pub record IsApart (a : Arena) : Type 0 where
   pub placed : (p : Piece) → IsOut a p → (a.log_min ≤ p.log) × ((p.log ≤ a.log_len) × IsPlaced a p)
   pub one : (w : ℕ) (p q : Piece) → IsOut a p → IsOut a q → Covers p w → Covers q w → p ≡ q
+
+-- a piece is out of the new arena exactly where it is this one or was out of the old one
+abbrev pub AddsPiece : Arena → Arena → Piece → Type 0
+AddsPiece old new p = (q : Piece) → IsOut new q ↔ ((q ≡ p) ⊎ IsOut old q)
+
+-- a piece is out of the new arena exactly where it isn't this one and was out of the old one
+abbrev pub DropsPiece : Arena → Arena → Piece → Type 0
+DropsPiece old new p = (q : Piece) → IsOut new q ↔ ((q ≢ p) × IsOut old q)
 
 -- whether the word is in a piece that is out
 abbrev pub is_word_out : Arena → ℕ → Bool

@@ -1,7 +1,7 @@
 //! Blocks of 8 words from one arena.
 ghost use Rattle.std.specs.Prelude.{◌≡◌, ℕ, ◌+◌, ◌-◌, ◌*◌, ◌/◌, ◌^◌, ◌<◌, ◌≤◌, ◌↔◌, IfOk, IfSome, IfNone, IsSome, IsNone, slice_index, length};
 ghost use Rattle.std.specs.FinSet as set;
-ghost use Rattle.ck_words.specs.Blocks.{BlockArena, with_out, IsOut, IsBlock, IsApart};
+ghost use Rattle.ck_words.specs.Blocks.{BlockArena, with_out, IsOut, AddsBlock, DropsBlock, IsBlock, IsApart};
 
 use std::alloc::{AllocError, Global};
 use std::marker::Model;
@@ -49,7 +49,9 @@ impl Blocks {
     pub fn take(&mut self) -> Option<u64>
         ensures placed { IfSome result (IsBlock self.old) }
         ensures was_free { IfSome result (λ at. ¬ IsOut self.old at) }
-        ensures is_out { IfSome result (λ at. self.new ≡ with_out self.old (set.insert self.old.out at)) }
+        ensures is_out { IfSome result (IsOut self.new) }
+        ensures adds { IfSome result (AddsBlock self.old self.new) }
+        ensures after { IfSome result (λ at. self.new ≡ with_out self.old (set.insert self.old.out at)) }
 
         // None comes exactly where no block is free.
         ensures none { IsNone result ↔ ((at : ℕ) → IsBlock self.old at → IsOut self.old at) }
@@ -66,7 +68,8 @@ impl Blocks {
     /// Takes back the block at `at`, which is out.
     pub fn give(&mut self, at: u64)
         requires { IsOut self.old at }
-        ensures is_back { self.new ≡ with_out self.old (set.remove self.old.out at) }
+        ensures drops { DropsBlock self.old self.new at }
+        ensures after { self.new ≡ with_out self.old (set.remove self.old.out at) }
         ensures apart { IsApart self.new }
     {
         self.numbers[self.free] = ((at - self.first) / BLOCK_WORDS) as u32;

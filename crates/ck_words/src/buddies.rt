@@ -1,7 +1,7 @@
 //! Pieces of a power of two words from one arena, as the binary buddy system hands them out.
 ghost use Rattle.std.specs.Prelude.{◌≡◌, ℕ, ◌+◌, ◌-◌, ◌*◌, ◌/◌, ◌^◌, ◌<◌, ◌≤◌, ◌↔◌, IfOk, IfSome, IfNone, IsSome, IsNone, slice_index, length};
 ghost use Rattle.std.specs.FinSet as set;
-ghost use Rattle.ck_words.specs.Buddies.{Arena, Piece, piece, with_out, IsOut, IsPlaced, IsFree, HasWordOut, IsApart, free_words};
+ghost use Rattle.ck_words.specs.Buddies.{Arena, Piece, piece, with_out, IsOut, AddsPiece, DropsPiece, IsPlaced, IsFree, HasWordOut, IsApart, free_words};
 
 use std::alloc::{AllocError, Global};
 use std::marker::Model;
@@ -89,11 +89,14 @@ impl Buddies {
         requires most { log ≤ self.old.log_len }
         ensures placed { IfSome result (λ at. IsPlaced self.old (piece at log)) }
         ensures was_free { IfSome result (λ at. IsFree self.old (piece at log)) }
-        ensures is_out { IfSome result (λ at. self.new ≡ with_out self.old (set.insert self.old.out (piece at log))) }
+        ensures is_out { IfSome result (λ at. IsOut self.new (piece at log)) }
+        ensures adds { IfSome result (λ at. AddsPiece self.old self.new (piece at log)) }
+        ensures after { IfSome result (λ at. self.new ≡ with_out self.old (set.insert self.old.out (piece at log))) }
 
         // None comes exactly where each range of that length has a word that is out.
         ensures none { IsNone result ↔ ((at : ℕ) → IsPlaced self.old (piece at log) → HasWordOut self.old (piece at log)) }
         ensures unchanged { IfNone result (self.new ≡ self.old) }
+        ensures whole { self.old.out ≡ set.empty → IsSome result }
         ensures apart { IsApart self.new }
     {
         let depth = self.log_len - log;
@@ -110,7 +113,8 @@ impl Buddies {
     /// and so on, as long as the buddy is free whole.
     pub fn give(&mut self, at: u64, log: u64)
         requires { IsOut self.old (piece at log) }
-        ensures is_back { self.new ≡ with_out self.old (set.remove self.old.out (piece at log)) }
+        ensures drops { DropsPiece self.old self.new (piece at log) }
+        ensures after { self.new ≡ with_out self.old (set.remove self.old.out (piece at log)) }
         ensures apart { IsApart self.new }
     {
         let node = node_of(self.first, self.log_len, at, log);
@@ -121,6 +125,7 @@ impl Buddies {
     /// The number of words that are free.
     pub fn free(&self) -> u64
         ensures count { result ≡ free_words self.now }
+        ensures all { self.now.out ≡ set.empty → result ≡ 2 ^ self.now.log_len }
         ensures apart { IsApart self.now }
     {
         self.free

@@ -1,7 +1,7 @@
 use Rattle.std.proofs.Common.{arith, ◌≡◌, ℕ, suc, List, slice_set, ◌+◌, ◌-◌, ◌/◌, ◌<◌, length, refl, sym, ap, subst, ◌∙◌}
 use Rattle.std.specs.FinSet as set
-use Rattle.ck_words.specs.Blocks.{BlockArena, IsOut, IsApart, IsBlocksOf, blocks_of, with_out}
-use Rattle.ck_words.proofs.FreeBlocks.{given_from, given_small, given_room, given_back, given_is, blocks_apart}
+use Rattle.ck_words.specs.Blocks.{BlockArena, IsOut, IsApart, IsBlocksOf, blocks_of, with_out, DropsBlock}
+use Rattle.ck_words.proofs.FreeBlocks.{given_from, given_small, given_room, given_back, given_is, blocks_apart, drops}
 use Rattle.ck_words.proofs.blocks.Blocks.give.Goals as goal
 
 -- the block is out of the arena that the fields stand for
@@ -31,14 +31,17 @@ invariant_of-self c =
     subst (λ n. IsBlocksOf inside.first n written) more
     (given_is inside.first inside.free inside.numbers.items c.self.invariant c.args.at (seen_out _ _ _ _ c.self.view_is c.args.at c.requires) ((c.args.at - inside.first) / 8) refl)
 
-pub returns-clause-is_back : goal.returns-clause-is_back
-returns-clause-is_back c =
+pub returns-clause-after : goal.returns-clause-after
+returns-clause-after c =
     let inside = c.self.inside in
     let more : inside.free + 1 ≡ suc inside.free = omega arith in
     let written = slice_set inside.numbers.items inside.free ((c.args.at - inside.first) / 8) in
     ap (λ n. blocks_of inside.first n written) more
     ∙ given_back inside.first inside.free inside.numbers.items c.self.invariant c.args.at (seen_out _ _ _ _ c.self.view_is c.args.at c.requires) ((c.args.at - inside.first) / 8) refl
     ∙ ap (λ a. with_out a (set.remove a.out c.args.at)) c.self.view_is
+
+pub returns-clause-drops : goal.returns-clause-drops
+returns-clause-drops c = subst (λ b. DropsBlock c.args.self.now b c.args.at) (sym (returns-clause-after c)) (drops c.args.self.now c.args.at)
 
 pub returns-clause-apart : goal.returns-clause-apart
 returns-clause-apart c = blocks_apart _ _ _

@@ -1,8 +1,8 @@
-use Rattle.std.proofs.Common.{arith, ◌≡◌, ℕ, suc, List, slice_index, ◌+◌, ◌-◌, ◌*◌, ◌<◌, ◌≤◌, length, refl, sym, ap, subst, ◌∙◌, true≢false}
+use Rattle.std.proofs.Common.{arith, ◌≡◌, ℕ, suc, List, slice_index, ◌+◌, ◌-◌, ◌*◌, ◌<◌, ◌≤◌, length, refl, sym, ap, subst, ◌∙◌, true≢false, inl}
 use Rattle.std.proofs.lemmas.Grind.{get_or_default_zero}
 use Rattle.std.specs.FinSet as set
-use Rattle.ck_words.specs.Blocks.{BlockArena, IsOut, IsBlock, IsApart, IsBlocksOf, blocks_of, with_out}
-use Rattle.ck_words.proofs.FreeBlocks.{all_out, taken_placed, taken_was_free, taken_out, taken_is, blocks_apart}
+use Rattle.ck_words.specs.Blocks.{BlockArena, IsOut, IsBlock, IsApart, IsBlocksOf, blocks_of, with_out, AddsBlock}
+use Rattle.ck_words.proofs.FreeBlocks.{all_out, taken_placed, taken_was_free, taken_out, taken_is, blocks_apart, adds}
 use Rattle.ck_words.proofs.blocks.Blocks.take.Goals as goal
 use Rattle.ck_words.proofs.blocks.Blocks.take.Goals.{After-from}
 
@@ -39,10 +39,16 @@ returns-clause-placed c = subst (λ a. IsBlock a (c.self.inside.first + 8 * c.fr
 pub returns-clause-was_free : goal.returns-clause-was_free
 returns-clause-was_free c = subst (λ a. ¬ IsOut a (c.self.inside.first + 8 * c.from.result)) (view_before c) (taken_was_free c.self.inside.first (c.self.inside.free - 1) c.self.inside.numbers.items (is_before c) _ (place_is c))
 
-pub returns-clause-is_out : goal.returns-clause-is_out
-returns-clause-is_out c =
+pub returns-clause-after : goal.returns-clause-after
+returns-clause-after c =
     taken_out c.self.inside.first (c.self.inside.free - 1) c.self.inside.numbers.items (is_before c) _ (place_is c)
     ∙ ap (λ a. with_out a (set.insert a.out (c.self.inside.first + 8 * c.from.result))) (view_before c)
+
+pub returns-clause-adds : goal.returns-clause-adds
+returns-clause-adds c = subst (λ b. AddsBlock c.args.self.now b (c.self.inside.first + 8 * c.from.result)) (sym (returns-clause-after c)) (adds c.args.self.now (c.self.inside.first + 8 * c.from.result))
+
+pub returns-clause-is_out : goal.returns-clause-is_out
+returns-clause-is_out c = (returns-clause-adds c (c.self.inside.first + 8 * c.from.result)).1 (inl refl)
 
 pub returns-clause-none : goal.returns-clause-none
 returns-clause-none c = (λ e. absurd (true≢false e), λ all. absurd (returns-clause-was_free c (all _ (returns-clause-placed c))))

@@ -3,7 +3,8 @@ use Rattle.std.proofs.lemmas.List.{with_items_is}
 use Rattle.std.specs.FinSet as set
 use Rattle.std.specs.Vec.{with_items}
 use Rattle.ck_words.specs.Tree.{PutsBack}
-use Rattle.ck_words.specs.Buddies.{IsApart, IsOut, IsArenaOf, Arena, piece, arena_of, with_out}
+use Rattle.ck_words.specs.Buddies.{IsApart, IsOut, IsArenaOf, Arena, piece, arena_of, with_out, DropsPiece}
+use Rattle.ck_words.proofs.Members.{drops}
 use Rattle.ck_words.proofs.Arenas.{out_seen, arena_apart, free_fits, IsNodeOfOut, node_of_out, IsGiven, given}
 use Rattle.ck_words.proofs.buddies.Buddies.give.Goals as goal
 use Rattle.ck_words.proofs.buddies.Buddies.give.Goals.{After-self-2-1}
@@ -70,12 +71,15 @@ invariant_of-self c =
     subst (λ h. IsArenaOf inside.first inside.log_len inside.log_min (inside.free + c.words_of.result) h) (sym (items_are c))
     (subst (λ n. IsArenaOf inside.first inside.log_len inside.log_min (inside.free + n) c.put_back.new.halvings) (sym c.words_of.ensures) (given_here c).is_arena)
 
-pub returns-clause-is_back : goal.returns-clause-is_back
-returns-clause-is_back c =
+pub returns-clause-after : goal.returns-clause-after
+returns-clause-after c =
     let inside = c.self.inside in
     ap (arena_of inside.first inside.log_len inside.log_min) (items_are c)
     ∙ (given_here c).is_out
     ∙ ap (λ a. with_out a (set.remove a.out (piece c.args.at c.args.log))) c.self.view_is
+
+pub returns-clause-drops : goal.returns-clause-drops
+returns-clause-drops c = subst (λ b. DropsPiece c.args.self.now b (piece c.args.at c.args.log)) (sym (returns-clause-after c)) (drops c.args.self.now (piece c.args.at c.args.log))
 
 pub returns-clause-apart : goal.returns-clause-apart
 returns-clause-apart c =

@@ -1,12 +1,13 @@
-use Rattle.std.proofs.Common.{arith, ℕ, ◌≡◌, ◌+◌, ◌-◌, ◌*◌, ◌^◌, ◌<◌, ◌≤◌, List, length, slice_index, subst, sym, refl, ap, ◌∙◌, true≢false, get_or}
+use Rattle.std.proofs.Common.{arith, ℕ, ◌≡◌, ◌+◌, ◌-◌, ◌*◌, ◌^◌, ◌<◌, ◌≤◌, List, length, slice_index, subst, sym, refl, ap, ◌∙◌, true≢false, inl}
 use Rattle.std.proofs.lemmas.List.{with_items_is}
 use Rattle.std.proofs.lemmas.Grind.{get_or_default_zero}
 use Rattle.std.proofs.lemmas.Nat.{pow_pos}
 use Rattle.std.specs.FinSet as set
 use Rattle.std.specs.Vec.{with_items}
 use Rattle.ck_words.specs.Tree.{IsConsistent, NoneOutFrom, TakesOut}
-use Rattle.ck_words.specs.Buddies.{IsApart, IsPlaced, IsFree, IsArenaOf, HasWordOut, Arena, piece, arena_of, with_out}
-use Rattle.ck_words.proofs.Arenas.{at_least, at_most, arena_apart, row_tall, row_from, row_to, row_in_tree, IsTaken, taken_row, row_enough, none_where_full}
+use Rattle.ck_words.specs.Buddies.{IsApart, IsPlaced, IsFree, IsArenaOf, HasWordOut, Arena, piece, arena_of, with_out, AddsPiece}
+use Rattle.ck_words.proofs.Members.{adds}
+use Rattle.ck_words.proofs.Arenas.{at_least, at_most, arena_apart, row_tall, row_from, row_to, row_in_tree, IsTaken, taken_row, row_enough, none_where_full, none_where_empty}
 use Rattle.ck_words.proofs.buddies.Buddies.take.Goals as goal
 use Rattle.ck_words.proofs.buddies.Buddies.take.Goals.{After-place_of}
 
@@ -22,6 +23,10 @@ returns-then-from-depth-clause-none c =
     let value : slice_index inside.halvings.items 1 ≡ c.from.result = sym (c.from.ensures ∙ c.index.ensures ∙ get_or_default_zero inside.halvings.items 1 c.index.result.now two) in
     let none = none_where_full inside.first inside.log_len inside.log_min inside.free inside.halvings.items c.self.invariant c.args.log (at_least _ _ _ _ _ c.self.view_is c.args.log c.requires.least) (at_most _ _ _ _ _ c.self.view_is c.args.log c.requires.most) (subst (λ n. inside.log_len - c.args.log < n) (sym value) c.if-from-depth.true) in
     (λ _ at. subst (λ a. IsPlaced a (piece at c.args.log) → HasWordOut a (piece at c.args.log)) c.self.view_is (none at), λ _. refl)
+
+pub returns-then-from-depth-clause-whole : goal.returns-then-from-depth-clause-whole
+returns-then-from-depth-clause-whole c =
+    λ empty. absurd (none_where_empty c.args.self.now c.args.log c.requires.most empty ((returns-then-from-depth-clause-none c).0 refl))
 
 pub returns-then-from-depth-clause-apart : goal.returns-then-from-depth-clause-apart
 returns-then-from-depth-clause-apart c =
@@ -93,12 +98,18 @@ returns-clause-placed c = subst (λ a. IsPlaced a (piece c.place_of.result c.arg
 pub returns-clause-was_free : goal.returns-clause-was_free
 returns-clause-was_free c = subst (λ a. IsFree a (piece c.place_of.result c.args.log)) c.self.view_is (taken_here c).was_free
 
-pub returns-clause-is_out : goal.returns-clause-is_out
-returns-clause-is_out c =
+pub returns-clause-after : goal.returns-clause-after
+returns-clause-after c =
     let inside = c.self.inside in
     ap (arena_of inside.first inside.log_len inside.log_min) (items_are c)
     ∙ (taken_here c).is_out
     ∙ ap (λ a. with_out a (set.insert a.out (piece c.place_of.result c.args.log))) c.self.view_is
+
+pub returns-clause-adds : goal.returns-clause-adds
+returns-clause-adds c = subst (λ b. AddsPiece c.args.self.now b (piece c.place_of.result c.args.log)) (sym (returns-clause-after c)) (adds c.args.self.now (piece c.place_of.result c.args.log))
+
+pub returns-clause-is_out : goal.returns-clause-is_out
+returns-clause-is_out c = (returns-clause-adds c (piece c.place_of.result c.args.log)).1 (inl refl)
 
 pub returns-clause-none : goal.returns-clause-none
 returns-clause-none c = (λ e. absurd (true≢false e), λ none. let has = none c.place_of.result (returns-clause-placed c) in absurd (returns-clause-was_free c has.0 has.1.0 has.1.1))
