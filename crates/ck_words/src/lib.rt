@@ -10,3 +10,6 @@ mod tree;
 pub use back::Back;
 pub use blocks::Blocks;
 pub use buddies::Buddies;
+
+#[cfg(test)]
+mod tests;

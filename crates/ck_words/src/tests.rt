@@ -1,0 +1,150 @@
+ghost use Rattle.std.specs.Prelude.{◌≡◌, ◌+◌, ◌<◌, ◌≤◌, OnOk, IfOk, length, vec_len};
+ghost use Rattle.ck_words.specs.Held.{Holds};
+
+use std::alloc::{AllocError, Global};
+use std::test::Fail;
+
+use super::*;
+
+#[test]
+fn buddies_split_and_merge(rt: HostRuntime) -> Result<(), Fail> {
+    let mut pool = Buddies::new(rt.alloc(), 0, 6, 4)?;
+    let first = pool.take(4).ok_or("no piece of 16 words")?;
+    let second = pool.take(5).ok_or("no piece of 32 words")?;
+    let third = pool.take(4).ok_or("no second piece of 16 words")?;
+    assert!(rt; first + 16 <= second || second + 32 <= first);
+    assert!(rt; first + 16 <= third || third + 16 <= first);
+    assert!(rt; third + 16 <= second || second + 32 <= third);
+    assert_eq!(rt; pool.take(4), None);
+    assert_eq!(rt; pool.free(), 0);
+    pool.give(first, 4);
+    assert_eq!(rt; pool.free(), 16);
+    assert_eq!(rt; pool.take(5), None);
+    Ok(())
+}
+
+#[test]
+fn blocks_in_turn(rt: HostRuntime) -> Result<(), Fail> {
+    let mut pool = Blocks::new(rt.alloc(), 0, 2)?;
+    let first = pool.take().ok_or("no block")?;
+    let second = pool.take().ok_or("no second block")?;
+    assert!(rt; first + 8 <= second || second + 8 <= first);
+    assert_eq!(rt; pool.take(), None);
+    assert_eq!(rt; pool.free(), 0);
+    pool.give(first);
+    assert_eq!(rt; pool.free(), 1);
+    assert_eq!(rt; pool.take(), Some(first));
+    Ok(())
+}
+
+/// Takes a piece and puts it down.
+fn take_one(pool: &mut Buddies, held: &mut Vec<(u64, u64)>, log: u64) -> Result<Option<u64>, AllocError>
+    requires least { pool.old.log_min ≤ log }
+    requires most { log ≤ pool.old.log_len }
+    requires holds { Holds pool.old held.old.items }
+    ensures holds { OnOk result (Holds pool.new held.new.items) }
+    ensures min { pool.new.log_min ≡ pool.old.log_min }
+    ensures len { pool.new.log_len ≡ pool.old.log_len }
+{
+    match pool.take(log) {
+        Some(at) => {
+            held.push((at, log))?;
+            Ok(Some(at))
+        }
+        None => Ok(None),
+    }
+}
+
+/// Gives a piece back, and strikes it out.
+fn give_one(pool: &mut Buddies, held: &mut Vec<(u64, u64)>, i: usize) -> (u64, u64)
+    requires within { i < vec_len held.old }
+    requires holds { Holds pool.old held.old.items }
+    ensures holds { Holds pool.new held.new.items }
+    ensures min { pool.new.log_min ≡ pool.old.log_min }
+    ensures len { pool.new.log_len ≡ pool.old.log_len }
+{
+    let (at, log) = held.remove(i);
+    pool.give(at, log);
+    (at, log)
+}
+
+/// Marks words as out or free, and tells whether all of them were marked otherwise before.
+fn mark(words: &mut [bool], at: usize, len: usize, out: bool) -> bool {
+    let mut all = true;
+    for i in 0..words.len() {
+        if at <= i && i - at < len {
+            all = all && words[i] != out;
+            words[i] = out;
+        }
+    }
+    all
+}
+
+/// Whether each range of `len` words at a multiple of `len` has a word that is out.
+fn is_each_range_blocked(words: &[bool], len: usize) -> bool
+    requires { 0 < len }
+{
+    let mut blocked = true;
+    for i in 0..words.len() {
+        if i % len == 0 {
+            if !blocked {
+                return false;
+            }
+            blocked = false;
+        }
+        blocked = blocked || words[i];
+    }
+    blocked
+}
+
+fn free_count(words: &[bool]) -> usize {
+    words.iter().filter(|word| !**word).count()
+}
+
+const FIRST: u64 = 40;
+
+/// The next of a sequence of numbers that look random.
+fn next(seed: u64) -> u64 {
+    seed.wrapping_mul(6364136223846793005)
+        .wrapping_add(1442695040888963407)
+}
+
+#[test]
+fn buddies_as_a_list_of_words(rt: HostRuntime) -> Result<(), Fail> {
+    let mut pool = Buddies::new(rt.alloc(), FIRST, 8, 3)?;
+    let mut words = vec![in rt.alloc(); false; 256]?;
+    let mut held: Vec<(u64, u64)> = Vec::new(rt.alloc());
+    let mut seed = 1;
+    for _ in 0..2000u64 {
+        seed = next(seed);
+        let log = 3 + (seed >> 40) % 6;
+        let len = 1_usize << log;
+        if (seed >> 60) % 2 == 0 || held.is_empty() {
+            match take_one(&mut pool, &mut held, log)? {
+                Some(at) => {
+                    let at = at.wrapping_sub(FIRST) as usize;
+                    assert_eq!(rt; at % len, 0);
+                    assert!(rt; at <= 256 - len);
+                    let fresh = mark(&mut words, at, len, true);
+                    assert!(rt; fresh);
+                }
+                None => {
+                    let blocked = is_each_range_blocked(&words, len);
+                    assert!(rt; blocked);
+                }
+            }
+        } else {
+            let i = (seed >> 20) as usize % held.len();
+            let (at, log) = give_one(&mut pool, &mut held, i);
+            let was_out = mark(&mut words, at.wrapping_sub(FIRST) as usize, 1 << (log % 64), false);
+            assert!(rt; was_out);
+        }
+        assert_eq!(rt; pool.free() as usize, free_count(&words));
+    }
+    while !held.is_empty() {
+        let _ = give_one(&mut pool, &mut held, 0);
+    }
+    assert_eq!(rt; pool.free(), 256);
+    assert_eq!(rt; pool.take(8), Some(FIRST));
+    Ok(())
+}
