@@ -60,6 +60,7 @@ fn give_one(pool: &mut Buddies, held: &mut Vec<(u64, u64)>, i: usize) -> (u64, u
     requires within { i < vec_len held.old }
     requires holds { Holds pool.old held.old.items }
     ensures holds { Holds pool.new held.new.items }
+    ensures fewer { vec_len held.new + 1 ≡ vec_len held.old }
     ensures min { pool.new.log_min ≡ pool.old.log_min }
     ensures len { pool.new.log_len ≡ pool.old.log_len }
 {
@@ -109,39 +110,64 @@ fn next(seed: u64) -> u64 {
         .wrapping_add(1442695040888963407)
 }
 
+/// Takes a piece, and tells whether the list of words agrees.
+fn take_agrees(pool: &mut Buddies, held: &mut Vec<(u64, u64)>, words: &mut [bool], log: u64) -> Result<bool, AllocError>
+    requires least { pool.old.log_min ≤ log }
+    requires most { log ≤ pool.old.log_len }
+    requires small { log < 64 }
+    requires holds { Holds pool.old held.old.items }
+    ensures holds { OnOk result (Holds pool.new held.new.items) }
+    ensures min { pool.new.log_min ≡ pool.old.log_min }
+    ensures len { pool.new.log_len ≡ pool.old.log_len }
+{
+    let len = (1_usize << log).max(1);
+    match take_one(pool, held, log)? {
+        Some(at) => Ok(mark(words, at.wrapping_sub(FIRST) as usize, len, true)),
+        None => Ok(is_each_range_blocked(words, len)),
+    }
+}
+
+/// Gives a piece back, and tells whether the list of words agrees.
+fn give_agrees(pool: &mut Buddies, held: &mut Vec<(u64, u64)>, words: &mut [bool], i: usize) -> bool
+    requires within { i < vec_len held.old }
+    requires holds { Holds pool.old held.old.items }
+    ensures holds { Holds pool.new held.new.items }
+    ensures min { pool.new.log_min ≡ pool.old.log_min }
+    ensures len { pool.new.log_len ≡ pool.old.log_len }
+{
+    let (at, log) = give_one(pool, held, i);
+    mark(words, at.wrapping_sub(FIRST) as usize, 1 << (log % 64), false)
+}
+
+/// Takes or gives a piece as the seed says, and tells whether the list of words agrees.
+fn step_agrees(pool: &mut Buddies, held: &mut Vec<(u64, u64)>, words: &mut [bool], seed: u64) -> Result<bool, AllocError>
+    requires min { pool.old.log_min ≡ 3 }
+    requires len { pool.old.log_len ≡ 8 }
+    requires holds { Holds pool.old held.old.items }
+    ensures holds { OnOk result (Holds pool.new held.new.items) }
+    ensures min { pool.new.log_min ≡ 3 }
+    ensures len { pool.new.log_len ≡ 8 }
+{
+    if (seed >> 60) % 2 == 0 || held.is_empty() {
+        return take_agrees(pool, held, words, 3 + (seed >> 40) % 6);
+    }
+    let i = (seed >> 20) as usize % held.len();
+    Ok(give_agrees(pool, held, words, i))
+}
+
 #[test]
 fn buddies_as_a_list_of_words(rt: HostRuntime) -> Result<(), Fail> {
     let mut pool = Buddies::new(rt.alloc(), FIRST, 8, 3)?;
     let mut words = vec![in rt.alloc(); false; 256]?;
     let mut held: Vec<(u64, u64)> = Vec::new(rt.alloc());
     let mut seed = 1;
-    for _ in 0..2000u64 {
+    'steps: for _ in 0..2000u64 {
         seed = next(seed);
-        let log = 3 + (seed >> 40) % 6;
-        let len = 1_usize << log;
-        if (seed >> 60) % 2 == 0 || held.is_empty() {
-            match take_one(&mut pool, &mut held, log)? {
-                Some(at) => {
-                    let at = at.wrapping_sub(FIRST) as usize;
-                    assert_eq!(rt; at % len, 0);
-                    assert!(rt; at <= 256 - len);
-                    let fresh = mark(&mut words, at, len, true);
-                    assert!(rt; fresh);
-                }
-                None => {
-                    let blocked = is_each_range_blocked(&words, len);
-                    assert!(rt; blocked);
-                }
-            }
-        } else {
-            let i = (seed >> 20) as usize % held.len();
-            let (at, log) = give_one(&mut pool, &mut held, i);
-            let was_out = mark(&mut words, at.wrapping_sub(FIRST) as usize, 1 << (log % 64), false);
-            assert!(rt; was_out);
-        }
+        let agrees = step_agrees(&mut pool, &mut held, &mut words, seed)?;
+        assert!(rt; agrees);
         assert_eq!(rt; pool.free() as usize, free_count(&words));
     }
-    while !held.is_empty() {
+    'returns: while !held.is_empty() {
         let _ = give_one(&mut pool, &mut held, 0);
     }
     assert_eq!(rt; pool.free(), 256);
