@@ -1,7 +1,6 @@
 -- A node that is taken out or put back, before the nodes above it are counted anew.
-use Rattle.std.proofs.Common.{◌≡◌, ◌≢◌, ℕ, suc, ◌⊎◌, inl, inr, ◌+◌, ◌*◌, ◌/◌, ◌%◌, ◌<◌, ◌≤◌, List, length, get_or, set, slice_index, nat_eq, arith, refl, sym, ap, subst, ◌∙◌, length-set, get_or-set_other, get_or-set_same}
+use Rattle.std.proofs.Common.{◌≡◌, ◌≢◌, ℕ, suc, inl, inr, ◌+◌, ◌*◌, ◌/◌, ◌%◌, ◌<◌, ◌≤◌, List, length, set, slice_index, arith, sym, subst, ◌∙◌, length-set, get_or-set_other, get_or-set_same}
 use Rattle.std.proofs.lemmas.Bool.{cases_eq}
-use Rattle.std.proofs.lemmas.Bool.Decides.{nat_tests}
 use Rattle.ck_words.specs.Tree.{joined_halvings, IsConsistentAt, IsConsistentBut, IsConsistent, NoneOutFrom}
 use Rattle.ck_words.proofs.Ancestors.{halves_whole, none_above_out}
 use Rattle.ck_words.proofs.Rising.{consistent_aside, path_kept}

@@ -1,9 +1,8 @@
 -- The number of free words.
-use Rattle.std.proofs.Common.{◌≡◌, ◌≢◌, ℕ, zero, suc, Bool, true, false, ◌⊎◌, inl, inr, ◌+◌, ◌-◌, ◌*◌, ◌^◌, ◌<◌, ◌≤◌, List, length, min, if◌then◌else◌, arith, refl, sym, ap, subst, ◌∙◌, true≢false}
+use Rattle.std.proofs.Common.{◌≡◌, ℕ, zero, suc, Bool, true, false, ◌⊎◌, inl, inr, ◌+◌, ◌-◌, ◌*◌, ◌^◌, ◌<◌, ◌≤◌, min, if◌then◌else◌, arith, refl, sym, ap, subst, ◌∙◌, true≢false}
 use Rattle.std.proofs.lemmas.Bool.{cases_eq}
-use Rattle.std.proofs.lemmas.Nat.{pow_pos}
 use Rattle.std.specs.FinSet as set
-use Rattle.ck_words.specs.Buddies.{Piece, piece, piece_cmp, Arena, with_out, IsOut, Covers, IsWordOut, IsFree, IsPlaced, IsApart, is_word_out, free_below, free_words}
+use Rattle.ck_words.specs.Buddies.{Piece, piece_cmp, Arena, with_out, IsOut, Covers, IsFree, IsPlaced, IsApart, is_word_out, free_below, free_words}
 use Rattle.ck_words.proofs.Members.{same_piece, same_test, same_members, out_insert, insert_itself, insert_keeps, out_remove, remove_keeps, word_out-from_test, test-from_word_out}
 use Rattle.ck_words.proofs.Words.{lt_or_ge}
 
@@ -15,10 +14,9 @@ abbrev ones : Bool → ℕ
 ones b = if b then 0 else 1
 
 module _ (a b : Arena) (same_first : b.first ≡ a.first) (start len : ℕ)
-  (outside : (w : ℕ) → ¬ ((a.first + start ≤ w) × (w < a.first + start + len)) → is_word_out b w ≡ is_word_out a w)
-  (free : (w : ℕ) → a.first + start ≤ w → w < a.first + start + len → is_word_out a w ≡ false)
-  (out : (w : ℕ) → a.first + start ≤ w → w < a.first + start + len → is_word_out b w ≡ true) where
-
+    (outside : (w : ℕ) → ¬ ((a.first + start ≤ w) × (w < a.first + start + len)) → is_word_out b w ≡ is_word_out a w)
+    (free : (w : ℕ) → a.first + start ≤ w → w < a.first + start + len → is_word_out a w ≡ false)
+    (out : (w : ℕ) → a.first + start ≤ w → w < a.first + start + len → is_word_out b w ≡ true) where
   word_b : (n : ℕ) → is_word_out b (b.first + n) ≡ is_word_out b (a.first + n)
   word_b n = ap (λ f. is_word_out b (f + n)) same_first
 
@@ -61,12 +59,12 @@ free_words-insert a p place is_free =
         let start : p.at ≡ a.first + place.0 * 2 ^ p.log = place.1.0 in
         same_test _ _
         (λ test. let has = word_out-from_test b w test in
-            elim (out_insert a.out p has.0 has.1.0) [
-              | inl same ↦
-                  let covers : Covers p w = subst (λ q. Covers q w) same has.1.1 in
-                  absurd (not_inside (let low = covers.0 in omega arith, let high = covers.1 in omega arith))
-              | inr was ↦ test-from_word_out a w (has.0, (was, has.1.1))
-            ])
+        elim (out_insert a.out p has.0 has.1.0) [
+          | inl same ↦
+              let covers : Covers p w = subst (λ q. Covers q w) same has.1.1 in
+              absurd (not_inside (let low = covers.0 in omega arith, let high = covers.1 in omega arith))
+          | inr was ↦ test-from_word_out a w (has.0, (was, has.1.1))
+        ])
         (λ test. let has = word_out-from_test a w test in test-from_word_out b w (has.0, (insert_keeps a.out p has.0 has.1.0, has.1.1)))
 
     free : (w : ℕ) → a.first + place.0 * 2 ^ p.log ≤ w → w < a.first + place.0 * 2 ^ p.log + 2 ^ p.log → is_word_out a w ≡ false

@@ -1,10 +1,10 @@
 -- The way from the root down to a node that is free whole.
-use Rattle.std.proofs.Common.{◌≡◌, ◌≢◌, ℕ, zero, suc, ◌+◌, ◌-◌, ◌*◌, ◌/◌, ◌%◌, ◌^◌, ◌<◌, ◌≤◌, ◌↔◌, ◌⊎◌, inl, inr, List, length, get_or, set, slice_index, min, nat_eq, arith, refl, sym, ap, subst, ◌∙◌}
+use Rattle.std.proofs.Common.{◌≡◌, ◌≢◌, ℕ, zero, suc, ◌+◌, ◌-◌, ◌*◌, ◌/◌, ◌%◌, ◌^◌, ◌<◌, ◌≤◌, List, length, slice_index, arith, sym, ap, subst, ◌∙◌}
 use Rattle.std.proofs.lemmas.Bool.Decides.{nat_tests}
 use Rattle.std.proofs.lemmas.Nat.{pow_pos}
-use Rattle.std.proofs.Math.Nat.{pow-suc, mul-le-mul_right, le_of_mul-le-mul_right, le-mul_of_pos_right, pow-le-pow_right, mod-eq_of_lt}
-use Rattle.ck_words.specs.Tree.{joined_halvings, IsConsistentAt, IsConsistent, NoneOutFrom, ancestor}
-use Rattle.ck_words.proofs.Ancestors.{ancestor-le, whole_half, whole_below}
+use Rattle.std.proofs.Math.Nat.{pow-suc, mul-le-mul_right, le-mul_of_pos_right, pow-le-pow_right, mod-eq_of_lt}
+use Rattle.ck_words.specs.Tree.{joined_halvings, IsConsistentAt, IsConsistent, NoneOutFrom}
+use Rattle.ck_words.proofs.Ancestors.{ancestor-le, whole_half}
 
 -- what holds each time the loop begins: the node has a free range of the length in question, and neither it nor any above it is out
 pub record IsDescending (h : List ℕ) (depth node spare : ℕ) : Type 0 where

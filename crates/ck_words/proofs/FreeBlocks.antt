@@ -1,14 +1,11 @@
 -- The numbers of the free blocks, and the places of those that are out.
-use Rattle.std.proofs.Common.{◌≡◌, ◌≢◌, ℕ, zero, suc, Bool, true, false, not, ◌&&◌, ◌||◌, ◌⊎◌, inl, inr, ◌+◌, ◌-◌, ◌*◌, ◌/◌, ◌^◌, ◌<◌, ◌≤◌, List, [], ◌∷◌, length, get_or, set, slice_index, nat_eq, if◌then◌else◌, arith, refl, sym, ap, subst, ◌∙◌, true≢false, length-set, get_or-set_other, get_or-set_same, eq-eqb}
+use Rattle.std.proofs.Common.{◌≡◌, ◌≢◌, ℕ, zero, suc, Bool, true, false, not, ◌&&◌, ◌||◌, inl, inr, ◌+◌, ◌-◌, ◌*◌, ◌/◌, ◌^◌, ◌<◌, ◌≤◌, List, ◌∷◌, length, set, slice_index, nat_eq, if◌then◌else◌, arith, refl, sym, ap, subst, ◌∙◌, true≢false, length-set, get_or-set_other, get_or-set_same, eq-eqb}
 use Rattle.std.proofs.lemmas.Bool.{cases_eq, ne_eqb}
-use Rattle.std.proofs.lemmas.Map.Views.{exact_unsigned_eq, list_any-from_Contains}
-use Rattle.std.proofs.lemmas.Bool.Decides.{nat_tests}
 use Rattle.std.specs.Ordering.{nat_cmp, eq_by_cmp}
 use Rattle.std.specs.Cmp.{nat_cmp_total, Equal-is, eq_by_cmp_equiv}
-use Rattle.std.specs.List.{list_any}
 use Rattle.std.specs.FinSet as finset
 use Rattle.std.specs.FinSet.{nat_cmp-IsAntisymmetric}
-use Rattle.ck_words.specs.Blocks.{BlockArena, with_out, IsOut, IsBlock, IsApart, Covers, among, out_places, blocks_of, IsBlocksOf, AddsBlock, DropsBlock}
+use Rattle.ck_words.specs.Blocks.{BlockArena, with_out, IsOut, IsBlock, IsApart, among, out_places, blocks_of, IsBlocksOf, AddsBlock, DropsBlock}
 use Rattle.ck_words.proofs.Members.{same_test, either, second_true, both, true_not, not_true}
 
 tie_exact : (x y : ℕ) → eq_by_cmp nat_cmp x y ≡ true → x ≡ y
@@ -37,13 +34,13 @@ module _ (numbers : List ℕ) (free first : ℕ) where
       let more : (m : ℕ) × IsOutAt numbers free first n at m → (m : ℕ) × IsOutAt numbers free first (suc n) at m = λ was. (was.0, record { within = let w = was.1.within in omega arith; place = was.1.place; taken = was.1.taken }) in
       let rest = out_places numbers free first n in
       let cases : (b : Bool) → among numbers free n ≡ b → finset.contains (finset.from_list {R = nat_cmp} (if b then rest else (first + 8 * n) ∷ rest)) at ≡ true → (m : ℕ) × IsOutAt numbers free first (suc n) at m =
-          λ b. elim b as (λ t. among numbers free n ≡ t → finset.contains (finset.from_list {R = nat_cmp} (if t then rest else (first + 8 * n) ∷ rest)) at ≡ true → (m : ℕ) × IsOutAt numbers free first (suc n) at m) [
-            | true ↦ λ e h. more (listed n at h)
-            | false ↦ λ e h. elim (either _ _ (sym (finset.contains-insert nat_cmp_total (finset.from_list rest) (first + 8 * n) at) ∙ h)) [
-              | inl tie ↦ (n, record { within = omega arith; place = tie_exact at (first + 8 * n) tie; taken = e })
-              | inr was ↦ more (listed n at was)
-            ]
-          ] in
+      λ b. elim b as (λ t. among numbers free n ≡ t → finset.contains (finset.from_list {R = nat_cmp} (if t then rest else (first + 8 * n) ∷ rest)) at ≡ true → (m : ℕ) × IsOutAt numbers free first (suc n) at m) [
+        | true ↦ λ e h. more (listed n at h)
+        | false ↦ λ e h. elim (either _ _ (sym (finset.contains-insert nat_cmp_total (finset.from_list rest) (first + 8 * n) at) ∙ h)) [
+          | inl tie ↦ (n, record { within = omega arith; place = tie_exact at (first + 8 * n) tie; taken = e })
+          | inr was ↦ more (listed n at was)
+        ]
+      ] in
       cases _ refl h
 
   lists : (n at m : ℕ) → IsOutAt numbers free first n at m → finset.contains (finset.from_list {R = nat_cmp} (out_places numbers free first n)) at ≡ true
@@ -52,13 +49,13 @@ module _ (numbers : List ℕ) (free first : ℕ) where
       let rest = out_places numbers free first n in
       let earlier : m ≢ n → finset.contains (finset.from_list {R = nat_cmp} rest) at ≡ true = λ ne. lists n at m (record { within = let w = is.within in omega arith; place = is.place; taken = is.taken }) in
       let cases : (b : Bool) → among numbers free n ≡ b → finset.contains (finset.from_list {R = nat_cmp} (if b then rest else (first + 8 * n) ∷ rest)) at ≡ true =
-          λ b. elim b as (λ t. among numbers free n ≡ t → finset.contains (finset.from_list {R = nat_cmp} (if t then rest else (first + 8 * n) ∷ rest)) at ≡ true) [
-            | true ↦ λ e. earlier (λ same. true≢false (sym e ∙ ap (among numbers free) (sym same) ∙ is.taken))
-            | false ↦ λ e. finset.contains-insert nat_cmp_total (finset.from_list rest) (first + 8 * n) at ∙ (elim (cases_eq m n) [
-              | inl same ↦ ap (λ c. c || finset.contains (finset.from_list {R = nat_cmp} rest) at) (subst (λ x. eq_by_cmp nat_cmp at x ≡ true) (is.place ∙ ap (λ k. first + 8 * k) same) (tie_itself at))
-              | inr ne ↦ second_true _ _ (earlier ne)
-            ])
-          ] in
+      λ b. elim b as (λ t. among numbers free n ≡ t → finset.contains (finset.from_list {R = nat_cmp} (if t then rest else (first + 8 * n) ∷ rest)) at ≡ true) [
+        | true ↦ λ e. earlier (λ same. true≢false (sym e ∙ ap (among numbers free) (sym same) ∙ is.taken))
+        | false ↦ λ e. finset.contains-insert nat_cmp_total (finset.from_list rest) (first + 8 * n) at ∙ (elim (cases_eq m n) [
+          | inl same ↦ ap (λ c. c || finset.contains (finset.from_list {R = nat_cmp} rest) at) (subst (λ x. eq_by_cmp nat_cmp at x ≡ true) (is.place ∙ ap (λ k. first + 8 * k) same) (tie_itself at))
+          | inr ne ↦ second_true _ _ (earlier ne)
+        ])
+      ] in
       cases _ refl
 
   -- what is out is what isn't among the free numbers
@@ -162,7 +159,7 @@ module _ (first free : ℕ) (numbers : List ℕ) (is : IsBlocksOf first (suc fre
       let counted = is.counted in
       let free_le = is.free_le in
       let more : finset.len ((blocks_of first free numbers).out) ≡ finset.len (before.out) + 1 =
-          ap finset.len taken_set ∙ finset.len-insert nat_cmp_total (before.out) at ∙ ap (λ b. if b then finset.len (before.out) else finset.len (before.out) + 1) (false_of _ taken_was_free) in
+      ap finset.len taken_set ∙ finset.len-insert nat_cmp_total (before.out) at ∙ ap (λ b. if b then finset.len (before.out) else finset.len (before.out) + 1) (false_of _ taken_was_free) in
       record {
         place = is.place;
         free_le = omega arith;
@@ -262,7 +259,7 @@ module _ (first free : ℕ) (numbers : List ℕ) (is : IsBlocksOf first free num
         let size = long in
         let room = given_room in
         let less : finset.len ((blocks_of first (suc free) written).out) ≡ finset.len (was.out) - 1 =
-            ap finset.len given_set ∙ finset.len-remove nat_cmp_total (was.out) at ∙ ap (λ b. if b then finset.len (was.out) - 1 else finset.len (was.out)) is_out in
+        ap finset.len given_set ∙ finset.len-remove nat_cmp_total (was.out) at ∙ ap (λ b. if b then finset.len (was.out) - 1 else finset.len (was.out)) is_out in
         record {
           place = subst (λ n. first + 8 * n ≤ 2 ^ 32) (sym long) is.place;
           free_le = omega (arith, size, room);
@@ -316,17 +313,19 @@ module _ (first count : ℕ) (numbers : List ℕ) (long : length numbers ≡ cou
   }
 
 pub adds : (a : BlockArena) (at : ℕ) → AddsBlock a (with_out a (finset.insert a.out at)) at
-adds a at q =
-    (λ h. elim (either _ _ (sym (finset.contains-insert nat_cmp_total a.out at q) ∙ h)) [ inl tie ↦ inl (tie_exact q at tie) | inr was ↦ inr was ],
-      λ h. finset.contains-insert nat_cmp_total a.out at q
+adds a at q = (
+  λ h. elim (either _ _ (sym (finset.contains-insert nat_cmp_total a.out at q) ∙ h)) [ inl tie ↦ inl (tie_exact q at tie) | inr was ↦ inr was ],
+  λ h. finset.contains-insert nat_cmp_total a.out at q
       ∙ (elim h [
         | inl same ↦ ap (λ b. b || finset.contains a.out q) (subst (λ x. eq_by_cmp nat_cmp q x ≡ true) same (tie_itself q))
         | inr was ↦ second_true _ _ was
-      ]))
+      ]),
+)
 
 pub drops : (a : BlockArena) (at : ℕ) → DropsBlock a (with_out a (finset.remove a.out at)) at
-drops a at q =
-    (λ h.
-        let parts = both _ _ (sym (finset.contains-remove nat_cmp_total a.out at q) ∙ h) in
-        (λ same. not_true _ parts.0 (subst (λ x. eq_by_cmp nat_cmp q x ≡ true) same (tie_itself q)), parts.1),
-      λ h. finset.contains-remove nat_cmp_total a.out at q ∙ ap (λ b. b && finset.contains a.out q) (true_not _ (λ tie. h.0 (tie_exact q at tie))) ∙ h.1)
+drops a at q = (
+  λ h.
+      let parts = both _ _ (sym (finset.contains-remove nat_cmp_total a.out at q) ∙ h) in
+      (λ same. not_true _ parts.0 (subst (λ x. eq_by_cmp nat_cmp q x ≡ true) same (tie_itself q)), parts.1),
+  λ h. finset.contains-remove nat_cmp_total a.out at q ∙ ap (λ b. b && finset.contains a.out q) (true_not _ (λ tie. h.0 (tie_exact q at tie))) ∙ h.1,
+)

@@ -1,12 +1,12 @@
 -- Where the root has no free range of a length, each range of that length has a word that is out.
-use Rattle.std.proofs.Common.{◌≡◌, ◌≢◌, ℕ, zero, suc, Bool, true, false, ◌⊎◌, inl, inr, ◌+◌, ◌-◌, ◌*◌, ◌/◌, ◌%◌, ◌^◌, ◌<◌, ◌≤◌, ◌↔◌, List, length, slice_index, nat_eq, min, arith, refl, sym, ap, subst, ◌∙◌}
+use Rattle.std.proofs.Common.{◌≡◌, ◌≢◌, ℕ, zero, suc, ◌⊎◌, inl, inr, ◌+◌, ◌-◌, ◌*◌, ◌/◌, ◌%◌, ◌^◌, ◌<◌, ◌≤◌, List, length, slice_index, arith, refl, ap, subst, ◌∙◌}
 use Rattle.std.proofs.lemmas.Bool.{cases_eq}
 use Rattle.std.proofs.lemmas.Bool.Decides.{nat_tests}
 use Rattle.std.proofs.lemmas.Nat.{pow_pos}
-use Rattle.std.proofs.Math.Nat.{pow-suc, mul-le-mul_right, pow-le-pow_right, le_of_mul-le-mul_right}
-use Rattle.ck_words.specs.Tree.{joined_halvings, IsConsistentAt, IsConsistent}
-use Rattle.ck_words.specs.Buddies.{Piece, piece, Arena, IsOut, Covers, HasWordOut, IsPlaced, arena_of}
-use Rattle.ck_words.proofs.Pieces.{IsRangeOf, IsNodeOut, range_of_place, place_of_range, row_size, node_out}
+use Rattle.std.proofs.Math.Nat.{pow-suc, mul-le-mul_right, le_of_mul-le-mul_right}
+use Rattle.ck_words.specs.Tree.{joined_halvings, IsConsistent}
+use Rattle.ck_words.specs.Buddies.{Piece, piece, Arena, HasWordOut, IsPlaced, arena_of}
+use Rattle.ck_words.proofs.Pieces.{IsRangeOf, range_of_place, place_of_range, row_size, node_out}
 use Rattle.ck_words.proofs.Words.{in_tree, even}
 
 joined_cut : (left right : ℕ) → joined_halvings left right ≢ 0 → (left ≢ 0) ⊎ (right ≢ 0)

@@ -1,6 +1,5 @@
 -- A list of held pieces after one is taken and after one is given back.
-use Rattle.std.proofs.Common.{◌≡◌, ◌≢◌, ℕ, suc, ◌⊎◌, inl, inr, ◌+◌, ◌^◌, ◌<◌, ◌≤◌, List, [], ◌∷◌, ◌++◌, length, get_or, arith, refl, sym, ap, subst, ◌∙◌, length-append}
-use Rattle.std.proofs.lemmas.Bool.{cases_eq}
+use Rattle.std.proofs.Common.{◌≡◌, ◌≢◌, ℕ, ◌⊎◌, inl, inr, ◌+◌, ◌<◌, ◌≤◌, List, [], ◌∷◌, ◌++◌, length, get_or, arith, refl, sym, ap, subst, ◌∙◌, length-append}
 use Rattle.std.proofs.lemmas.Nat.{pow_pos}
 use Rattle.std.proofs.lemmas.List.{get_or_append_left, get_or_default}
 use Rattle.std.proofs.Math.Seq.{get_or-append_seam}
@@ -9,7 +8,6 @@ use Rattle.std.specs.List.{remove}
 use Rattle.ck_words.specs.Buddies.{Piece, piece, Arena, IsOut, IsFree, AddsPiece, DropsPiece}
 use Rattle.ck_words.specs.Held.{held_at, Holds}
 use Rattle.ck_words.proofs.Words.{lt_or_ge}
-
 
 -- the pair at an index is the piece there
 pub held_at_is : (held : List (ℕ × ℕ)) (i : ℕ) (x : ℕ × ℕ) → i < length held → x ≡ get_or held i x → held_at held i ≡ piece x.0 x.1

@@ -1,16 +1,15 @@
 -- Sets of pieces by their members.
-use Rattle.std.proofs.Common.{◌≡◌, ◌≢◌, ℕ, Bool, true, false, not, ◌&&◌, ◌||◌, ◌⊎◌, inl, inr, ◌+◌, ◌^◌, ◌<◌, ◌≤◌, ◌↔◌, List, [], ◌∷◌, ◌++◌, get_or, nat_le, nat_lt, arith, refl, sym, ap, subst, ◌∙◌, true≢false}
+use Rattle.std.proofs.Common.{◌≡◌, ◌≢◌, ℕ, Bool, true, false, not, ◌&&◌, ◌||◌, ◌⊎◌, inl, inr, ◌+◌, ◌^◌, ◌<◌, ◌≤◌, List, [], ◌∷◌, get_or, nat_le, nat_lt, arith, refl, sym, ap, subst, ◌∙◌, true≢false}
 use Rattle.std.proofs.lemmas.Map.Views.{list_any-from_Contains, Contains-from_any}
 use Rattle.std.proofs.lemmas.List.Folds.{Any-from_list_any, list_any-from_Any}
 use Rattle.std.proofs.lemmas.Bool.Decides.{nat_tests}
-use Rattle.std.specs.declared.cmp.Ordering.TheVariants.{Equal}
-use Rattle.std.specs.Ordering.{nat_cmp, eq_by_cmp}
+use Rattle.std.specs.Ordering.{eq_by_cmp}
 use Rattle.std.specs.Cmp.{IsTotalOrder, Equal-is, eq_by_cmp_equiv}
 use Rattle.std.specs.Cmp.Lexicographic.{on_texts}
-use Rattle.std.specs.List.{list_any, Contains}
+use Rattle.std.specs.List.{Contains}
 use Rattle.std.specs.FinSet as set
 use Rattle.std.specs.FinSet.{IsAntisymmetric, nat_cmp-IsAntisymmetric, slice_cmp-IsAntisymmetric}
-use Rattle.ck_words.specs.Buddies.{Piece, piece, piece_cmp, Arena, IsOut, Covers, IsWordOut, is_word_out, with_out, AddsPiece, DropsPiece}
+use Rattle.ck_words.specs.Buddies.{Piece, piece_cmp, Arena, IsWordOut, is_word_out, with_out, AddsPiece, DropsPiece}
 
 pub same_piece : (p q : Piece) → p.at ≡ q.at → p.log ≡ q.log → p ≡ q
 same_piece p q at log = λ i. record { at = at i; log = log i }
@@ -105,11 +104,13 @@ test-from_word_out a w h =
     list_any-from_Any (λ p. nat_le p.at w && nat_lt w (p.at + 2 ^ p.log)) (set.items a.out) (contained.0, h.0, contained.1, contained.2, test-from_covers h.0.at (2 ^ h.0.log) w h.1.1.0 h.1.1.1)
 
 pub adds : (a : Arena) (p : Piece) → AddsPiece a (with_out a (set.insert a.out p)) p
-adds a p q =
-    (out_insert a.out p q, λ h. elim h [
-      | inl same ↦ subst (λ x. set.contains (set.insert a.out p) x ≡ true) (sym same) (insert_itself a.out p)
-      | inr was ↦ insert_keeps a.out p q was
-    ])
+adds a p q = (
+  out_insert a.out p q,
+  λ h. elim h [
+    | inl same ↦ subst (λ x. set.contains (set.insert a.out p) x ≡ true) (sym same) (insert_itself a.out p)
+    | inr was ↦ insert_keeps a.out p q was
+  ],
+)
 
 pub drops : (a : Arena) (p : Piece) → DropsPiece a (with_out a (set.remove a.out p)) p
 drops a p q = (out_remove a.out p q, λ h. remove_keeps a.out p q h.0 h.1)

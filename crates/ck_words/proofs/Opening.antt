@@ -1,14 +1,14 @@
 -- An arena in which nothing is out.
-use Rattle.std.proofs.Common.{◌≡◌, ◌≢◌, ℕ, Bool, true, false, ◌+◌, ◌-◌, ◌*◌, ◌%◌, ◌^◌, ◌<◌, ◌≤◌, ◌⊎◌, inl, inr, List, length, get_or, slice_index, nat_eq, arith, refl, sym, ap, subst, ◌∙◌, true≢false}
+use Rattle.std.proofs.Common.{◌≡◌, ℕ, true, ◌+◌, ◌-◌, ◌*◌, ◌%◌, ◌^◌, ◌<◌, ◌≤◌, inl, inr, List, length, slice_index, arith, sym, ap, ◌∙◌, true≢false}
 use Rattle.std.proofs.lemmas.Bool.Decides.{nat_tests}
 use Rattle.std.proofs.Math.Nat.{pow-le-pow_right, mod-eq_of_lt}
 use Rattle.std.proofs.Math.ListN.{replicate, get_or-eq_default}
 use Rattle.std.proofs.lemmas.List.{get_or-replicate, length-replicate}
 use Rattle.std.specs.FinSet as set
-use Rattle.ck_words.specs.Tree.{joined_halvings, IsConsistentAt, IsConsistent}
-use Rattle.ck_words.specs.Buddies.{Piece, piece_cmp, Arena, with_out, IsOut, free_words, arena_of, IsArenaOf}
+use Rattle.ck_words.specs.Tree.{joined_halvings, IsConsistent}
+use Rattle.ck_words.specs.Buddies.{Piece, piece_cmp, with_out, IsOut, arena_of, IsArenaOf}
 use Rattle.ck_words.proofs.Members.{same_members}
-use Rattle.ck_words.proofs.Pieces.{IsRangeOf, IsNodeOut, out_node, place_of_range}
+use Rattle.ck_words.proofs.Pieces.{out_node}
 use Rattle.ck_words.proofs.Words.{lt_or_ge}
 use Rattle.ck_words.proofs.Counting.{free_words-empty}
 

@@ -1,15 +1,14 @@
 -- The pieces that are out, by the nodes of the tree.
-use Rattle.std.proofs.Common.{◌≡◌, ◌≢◌, ℕ, zero, suc, Bool, true, false, cond, ◌⊎◌, inl, inr, ◌+◌, ◌-◌, ◌*◌, ◌/◌, ◌%◌, ◌^◌, ◌<◌, ◌≤◌, ◌↔◌, List, [], ◌∷◌, ◌++◌, length, get_or, slice_index, nat_eq, if◌then◌else◌, arith, refl, sym, ap, subst, ◌∙◌, true≢false, eq-eqb}
+use Rattle.std.proofs.Common.{◌≡◌, ℕ, zero, suc, Bool, true, false, ◌⊎◌, inl, inr, ◌+◌, ◌-◌, ◌*◌, ◌^◌, ◌<◌, ◌≤◌, List, ◌∷◌, length, get_or, slice_index, nat_eq, if◌then◌else◌, arith, refl, sym, ap, subst, ◌∙◌, true≢false, eq-eqb}
 use Rattle.std.proofs.lemmas.Map.Views.{exact_unsigned_eq}
 use Rattle.std.proofs.lemmas.Bool.{cases_eq}
-use Rattle.std.proofs.lemmas.Bool.Decides.{nat_tests}
 use Rattle.std.proofs.lemmas.List.Elements.{Contains-append_left, Contains-append_right, Contains-append_cases}
 use Rattle.std.proofs.lemmas.Nat.{pow_pos, pow-add}
 use Rattle.std.proofs.Math.Nat.{pow-suc, mul-le-mul_right, mul-le-mul_left, le_of_mul-le-mul_right, eq_of_mul-eq-mul_right, pow-le-pow_right}
 use Rattle.std.specs.List.{Contains}
 use Rattle.std.specs.FinSet as set
 use Rattle.ck_words.specs.Tree.{TakesOut, PutsBack}
-use Rattle.ck_words.specs.Buddies.{Piece, piece, piece_cmp, Arena, with_out, IsOut, out_in_row, out_in_rows, arena_of}
+use Rattle.ck_words.specs.Buddies.{Piece, piece, piece_cmp, with_out, IsOut, out_in_row, out_in_rows, arena_of}
 use Rattle.ck_words.proofs.Members.{same_piece, same_members, listed, lists, out_insert, insert_itself, insert_keeps, out_remove, remove_keeps}
 
 -- the piece is the range of the node
@@ -48,13 +47,13 @@ module _ (h : List ℕ) (first log_len log : ℕ) where
       let rest = out_in_row h first log_len log n in
       let value = slice_index h (2 ^ (log_len - log) + n) in
       let cases : (b : Bool) → nat_eq value 26 ≡ b → Contains (if b then here ∷ rest else rest) p → (m : ℕ) × IsInRow (suc n) p m =
-          λ b. elim b as (λ t. nat_eq value 26 ≡ t → Contains (if t then here ∷ rest else rest) p → (m : ℕ) × IsInRow (suc n) p m) [
-            | true ↦ λ e c. elim (contains_cases rest here p c) [
-              | inl same ↦ (n, record { within = omega arith; is = same; out = exact_unsigned_eq value 26 e })
-              | inr other ↦ more_in_row n p (row_out n p other)
-            ]
-            | false ↦ λ e c. more_in_row n p (row_out n p c)
-          ] in
+      λ b. elim b as (λ t. nat_eq value 26 ≡ t → Contains (if t then here ∷ rest else rest) p → (m : ℕ) × IsInRow (suc n) p m) [
+        | true ↦ λ e c. elim (contains_cases rest here p c) [
+          | inl same ↦ (n, record { within = omega arith; is = same; out = exact_unsigned_eq value 26 e })
+          | inr other ↦ more_in_row n p (row_out n p other)
+        ]
+        | false ↦ λ e c. more_in_row n p (row_out n p c)
+      ] in
       cases _ refl c
 
   out_row : (n : ℕ) (p : Piece) (m : ℕ) → IsInRow n p m → Contains (out_in_row h first log_len log n) p
@@ -64,16 +63,16 @@ module _ (h : List ℕ) (first log_len log : ℕ) where
       let rest = out_in_row h first log_len log n in
       let value = slice_index h (2 ^ (log_len - log) + n) in
       let cases : (b : Bool) → nat_eq value 26 ≡ b → Contains (if b then here ∷ rest else rest) p =
-          λ b. elim b as (λ t. nat_eq value 26 ≡ t → Contains (if t then here ∷ rest else rest) p) [
-            | true ↦ λ e. elim (cases_eq m n) [
-              | inl same ↦ contains_head rest here p (is.is ∙ ap (λ k. piece (first + k * 2 ^ log) log) same)
-              | inr other ↦ contains_tail rest here p (out_row n p m (record { within = let within = is.within in omega arith; is = is.is; out = is.out }))
-            ]
-            | false ↦ λ e. elim (cases_eq m n) [
-              | inl same ↦ absurd (true≢false (sym (eq-eqb value 26 (ap (λ k. slice_index h (2 ^ (log_len - log) + k)) (sym same) ∙ is.out)) ∙ e))
-              | inr other ↦ out_row n p m (record { within = let within = is.within in omega arith; is = is.is; out = is.out })
-            ]
-          ] in
+      λ b. elim b as (λ t. nat_eq value 26 ≡ t → Contains (if t then here ∷ rest else rest) p) [
+        | true ↦ λ e. elim (cases_eq m n) [
+          | inl same ↦ contains_head rest here p (is.is ∙ ap (λ k. piece (first + k * 2 ^ log) log) same)
+          | inr other ↦ contains_tail rest here p (out_row n p m (record { within = let within = is.within in omega arith; is = is.is; out = is.out }))
+        ]
+        | false ↦ λ e. elim (cases_eq m n) [
+          | inl same ↦ absurd (true≢false (sym (eq-eqb value 26 (ap (λ k. slice_index h (2 ^ (log_len - log) + k)) (sym same) ∙ is.out)) ∙ e))
+          | inr other ↦ out_row n p m (record { within = let within = is.within in omega arith; is = is.is; out = is.out })
+        ]
+      ] in
       cases _ refl
 
 pub row_size : (log_len log : ℕ) → log ≤ log_len → 2 ^ (log_len - log) * 2 ^ log ≡ 2 ^ log_len

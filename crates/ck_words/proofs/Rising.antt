@@ -1,6 +1,6 @@
 -- The loop that counts the nodes above a changed node anew.
-use Rattle.std.proofs.Common.{◌≡◌, ◌≢◌, ℕ, zero, suc, ◌+◌, ◌-◌, ◌*◌, ◌/◌, ◌%◌, ◌<◌, ◌≤◌, ◌↔◌, ◌⊎◌, inl, inr, List, length, get_or, set, slice_index, min, nat_eq, arith, refl, sym, ap, subst, ◌∙◌, length-set, get_or-set_other, get_or-set_same}
-use Rattle.std.proofs.lemmas.Grind.{common_steps, get_or-set_at}
+use Rattle.std.proofs.Common.{◌≡◌, ◌≢◌, ℕ, zero, suc, ◌+◌, ◌-◌, ◌*◌, ◌/◌, ◌%◌, ◌<◌, ◌≤◌, inl, inr, List, length, set, slice_index, arith, sym, ap, subst, ◌∙◌, length-set, get_or-set_other, get_or-set_same}
+use Rattle.std.proofs.lemmas.Grind.{get_or-set_at}
 use Rattle.std.proofs.lemmas.Bool.{cases_eq}
 use Rattle.std.proofs.lemmas.Bool.Decides.{nat_tests}
 use Rattle.ck_words.specs.Tree.{joined_halvings, IsConsistentAt, IsConsistentBut, IsConsistent, NoneOutFrom, SameOut, ancestor}

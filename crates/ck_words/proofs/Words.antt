@@ -1,13 +1,12 @@
 -- The words of an arena: which are out, and where a range is free.
-use Rattle.std.proofs.Common.{◌≡◌, ◌≢◌, ℕ, zero, suc, Bool, true, false, ◌⊎◌, inl, inr, ◌+◌, ◌-◌, ◌*◌, ◌/◌, ◌%◌, ◌^◌, ◌<◌, ◌≤◌, ◌↔◌, List, length, slice_index, nat_eq, min, arith, refl, sym, ap, subst, ◌∙◌}
+use Rattle.std.proofs.Common.{◌≡◌, ◌≢◌, ℕ, suc, ◌⊎◌, inl, inr, ◌+◌, ◌-◌, ◌*◌, ◌%◌, ◌^◌, ◌<◌, ◌≤◌, List, length, slice_index, arith, sym, ap, subst, ◌∙◌}
 use Rattle.std.proofs.lemmas.Bool.{cases_eq}
-use Rattle.std.proofs.lemmas.Bool.Decides.{nat_tests}
-use Rattle.std.proofs.lemmas.Nat.{pow_pos, pow-add}
-use Rattle.std.proofs.Math.Nat.{pow-suc, mul-le-mul_right, mul-le-mul_left, pow-le-pow_right}
-use Rattle.ck_words.specs.Tree.{joined_halvings, IsConsistentAt, IsConsistent, NoneOutFrom, ancestor}
-use Rattle.ck_words.specs.Buddies.{Piece, piece, Arena, IsOut, Covers, IsWordOut, HasWordOut, IsFree, IsPlaced, IsApart, arena_of}
-use Rattle.ck_words.proofs.Ancestors.{ancestor-le, ancestor-ancestor, ancestor-is, whole_below, none_below_out}
-use Rattle.ck_words.proofs.Pieces.{IsRangeOf, IsNodeOut, range_of_place, place_of_range, row_size, one_piece, out_node, node_out}
+use Rattle.std.proofs.lemmas.Nat.{pow_pos}
+use Rattle.std.proofs.Math.Nat.{mul-le-mul_right, pow-le-pow_right}
+use Rattle.ck_words.specs.Tree.{IsConsistent, NoneOutFrom, ancestor}
+use Rattle.ck_words.specs.Buddies.{Piece, Arena, IsOut, Covers, IsFree, IsApart, arena_of}
+use Rattle.ck_words.proofs.Ancestors.{ancestor-ancestor, ancestor-is, whole_below, none_below_out}
+use Rattle.ck_words.proofs.Pieces.{IsRangeOf, place_of_range, row_size, one_piece, out_node}
 
 pub lt_or_ge : (a b : ℕ) → (a < b) ⊎ (b ≤ a)
 lt_or_ge a b = grind (arith, cases_eq)
@@ -45,9 +44,6 @@ module _ (first log_len log_min : ℕ) where
       let below : (at.0 + 1) * 2 ^ p.log ≤ 2 ^ (log_len - p.log) * 2 ^ p.log = mul-le-mul_right (2 ^ p.log) (let m = at.1.0 in omega arith) in
       let start = at.1.1.0 in
       (at.0, (start, omega arith))
-
-
-
 
   module _ (h : List ℕ) (consistent : IsConsistent h) (nodes : length h ≡ 2 * 2 ^ (log_len - log_min)) (shortest : log_min ≤ log_len) where
     pub even : length h % 2 ≡ 0

@@ -1,5 +1,5 @@
 -- What a client holds of an arena of buddies.
-use Rattle.std.specs.Prelude.{◌≡◌, ◌≢◌, ℕ, ◌<◌, List, length, slice_index_or}
+use Rattle.std.specs.Prelude.{◌≢◌, ℕ, ◌<◌, List, length, slice_index_or}
 use Rattle.ck_words.specs.Buddies.{Piece, piece, Arena, IsOut}
 
 -- the piece at an index of a list of places and logs

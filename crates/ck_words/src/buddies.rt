@@ -3,10 +3,9 @@ ghost use Rattle.std.specs.Prelude.{◌≡◌, ℕ, ◌+◌, ◌-◌, ◌*◌, �
 ghost use Rattle.std.specs.FinSet as set;
 ghost use Rattle.ck_words.specs.Buddies.{Arena, Piece, piece, with_out, IsOut, AddsPiece, DropsPiece, IsPlaced, IsFree, HasWordOut, IsApart, free_words};
 
+use crate::tree::{descend, put_back, take_out};
 use std::alloc::{AllocError, Global};
 use std::marker::Model;
-
-use crate::tree::{descend, put_back, take_out};
 
 /// The length of a piece in words.
 fn words_of(log: u64) -> u64

@@ -1,10 +1,9 @@
 ghost use Rattle.std.specs.Prelude.{◌≡◌, ◌+◌, ◌<◌, ◌≤◌, OnOk, IfOk, length, vec_len};
 ghost use Rattle.ck_words.specs.Held.{Holds};
 
+use super::*;
 use std::alloc::{AllocError, Global};
 use std::test::Fail;
-
-use super::*;
 
 #[test]
 fn buddies_split_and_merge(rt: HostRuntime) -> Result<(), Fail> {
@@ -38,7 +37,11 @@ fn blocks_in_turn(rt: HostRuntime) -> Result<(), Fail> {
 }
 
 /// Takes a piece and puts it down.
-fn take_one(pool: &mut Buddies, held: &mut Vec<(u64, u64)>, log: u64) -> Result<Option<u64>, AllocError>
+fn take_one(
+    pool: &mut Buddies,
+    held: &mut Vec<(u64, u64)>,
+    log: u64,
+) -> Result<Option<u64>, AllocError>
     requires least { pool.old.log_min ≤ log }
     requires most { log ≤ pool.old.log_len }
     requires holds { Holds pool.old held.old.items }
@@ -111,7 +114,12 @@ fn next(seed: u64) -> u64 {
 }
 
 /// Takes a piece, and tells whether the list of words agrees.
-fn take_agrees(pool: &mut Buddies, held: &mut Vec<(u64, u64)>, words: &mut [bool], log: u64) -> Result<bool, AllocError>
+fn take_agrees(
+    pool: &mut Buddies,
+    held: &mut Vec<(u64, u64)>,
+    words: &mut [bool],
+    log: u64,
+) -> Result<bool, AllocError>
     requires least { pool.old.log_min ≤ log }
     requires most { log ≤ pool.old.log_len }
     requires small { log < 64 }
@@ -136,11 +144,21 @@ fn give_agrees(pool: &mut Buddies, held: &mut Vec<(u64, u64)>, words: &mut [bool
     ensures len { pool.new.log_len ≡ pool.old.log_len }
 {
     let (at, log) = give_one(pool, held, i);
-    mark(words, at.wrapping_sub(FIRST) as usize, 1 << (log % 64), false)
+    mark(
+        words,
+        at.wrapping_sub(FIRST) as usize,
+        1 << (log % 64),
+        false,
+    )
 }
 
 /// Takes or gives a piece as the seed says, and tells whether the list of words agrees.
-fn step_agrees(pool: &mut Buddies, held: &mut Vec<(u64, u64)>, words: &mut [bool], seed: u64) -> Result<bool, AllocError>
+fn step_agrees(
+    pool: &mut Buddies,
+    held: &mut Vec<(u64, u64)>,
+    words: &mut [bool],
+    seed: u64,
+) -> Result<bool, AllocError>
     requires min { pool.old.log_min ≡ 3 }
     requires len { pool.old.log_len ≡ 8 }
     requires holds { Holds pool.old held.old.items }

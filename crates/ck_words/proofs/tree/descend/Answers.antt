@@ -1,5 +1,4 @@
-use Rattle.std.proofs.Common.{arith, ◌≡◌, ◌*◌, ◌^◌, ◌%◌, slice_index, subst, sym}
-use Rattle.std.proofs.Math.Nat.{mod-eq_of_lt}
+use Rattle.std.proofs.Common.{arith, ◌≡◌, slice_index}
 use Rattle.ck_words.proofs.Descending.{descending-init, descending-inner, descending-step, descending-end}
 use Rattle.ck_words.proofs.tree.descend.Goals as goal
 use Rattle.ck_words.proofs.tree.descend.Goals.{Left-loop-spare, then-loop-spare-test+else-halvings-node-gt0, else-loop-spare-test}

@@ -1,6 +1,6 @@
-use Rattle.std.proofs.Common.{arith, ◌≡◌, ℕ, suc, List, slice_set, ◌+◌, ◌-◌, ◌/◌, ◌<◌, length, refl, sym, ap, subst, ◌∙◌}
+use Rattle.std.proofs.Common.{arith, ◌≡◌, ℕ, suc, List, slice_set, ◌+◌, ◌-◌, ◌/◌, refl, sym, ap, subst, ◌∙◌}
 use Rattle.std.specs.FinSet as set
-use Rattle.ck_words.specs.Blocks.{BlockArena, IsOut, IsApart, IsBlocksOf, blocks_of, with_out, DropsBlock}
+use Rattle.ck_words.specs.Blocks.{BlockArena, IsOut, IsBlocksOf, blocks_of, with_out, DropsBlock}
 use Rattle.ck_words.proofs.FreeBlocks.{given_from, given_small, given_room, given_back, given_is, blocks_apart, drops}
 use Rattle.ck_words.proofs.blocks.Blocks.give.Goals as goal
 

@@ -1,7 +1,7 @@
-use Rattle.std.proofs.Common.{arith, ◌≡◌, ℕ, suc, List, slice_index, ◌+◌, ◌-◌, ◌*◌, ◌<◌, ◌≤◌, length, refl, sym, ap, subst, ◌∙◌, true≢false, inl}
+use Rattle.std.proofs.Common.{arith, ◌≡◌, ℕ, suc, slice_index, ◌+◌, ◌-◌, ◌*◌, ◌<◌, length, refl, sym, ap, subst, ◌∙◌, true≢false, inl}
 use Rattle.std.proofs.lemmas.Grind.{get_or_default_zero}
 use Rattle.std.specs.FinSet as set
-use Rattle.ck_words.specs.Blocks.{BlockArena, IsOut, IsBlock, IsApart, IsBlocksOf, blocks_of, with_out, AddsBlock}
+use Rattle.ck_words.specs.Blocks.{IsOut, IsBlock, IsApart, IsBlocksOf, blocks_of, with_out, AddsBlock}
 use Rattle.ck_words.proofs.FreeBlocks.{all_out, taken_placed, taken_was_free, taken_out, taken_is, blocks_apart, adds}
 use Rattle.ck_words.proofs.blocks.Blocks.take.Goals as goal
 use Rattle.ck_words.proofs.blocks.Blocks.take.Goals.{After-from}

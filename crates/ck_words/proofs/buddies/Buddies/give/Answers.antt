@@ -1,11 +1,11 @@
-use Rattle.std.proofs.Common.{arith, ℕ, ◌≡◌, ◌+◌, ◌-◌, ◌*◌, ◌^◌, ◌<◌, ◌≤◌, List, length, slice_index, subst, sym, refl, ap, ◌∙◌}
+use Rattle.std.proofs.Common.{arith, ◌≡◌, ◌+◌, ◌^◌, ◌<◌, length, slice_index, subst, sym, refl, ap, ◌∙◌}
 use Rattle.std.proofs.lemmas.List.{with_items_is}
 use Rattle.std.specs.FinSet as set
 use Rattle.std.specs.Vec.{with_items}
 use Rattle.ck_words.specs.Tree.{PutsBack}
-use Rattle.ck_words.specs.Buddies.{IsApart, IsOut, IsArenaOf, Arena, piece, arena_of, with_out, DropsPiece}
+use Rattle.ck_words.specs.Buddies.{IsApart, IsArenaOf, piece, arena_of, with_out, DropsPiece}
 use Rattle.ck_words.proofs.Members.{drops}
-use Rattle.ck_words.proofs.Arenas.{out_seen, arena_apart, free_fits, IsNodeOfOut, node_of_out, IsGiven, given}
+use Rattle.ck_words.proofs.Arenas.{out_seen, arena_apart, free_fits, node_of_out, IsGiven, given}
 use Rattle.ck_words.proofs.buddies.Buddies.give.Goals as goal
 use Rattle.ck_words.proofs.buddies.Buddies.give.Goals.{After-self-2-1}
 

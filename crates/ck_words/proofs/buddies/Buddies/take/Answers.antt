@@ -1,11 +1,10 @@
-use Rattle.std.proofs.Common.{arith, ℕ, ◌≡◌, ◌+◌, ◌-◌, ◌*◌, ◌^◌, ◌<◌, ◌≤◌, List, length, slice_index, subst, sym, refl, ap, ◌∙◌, true≢false, inl}
+use Rattle.std.proofs.Common.{arith, ◌≡◌, ◌-◌, ◌*◌, ◌^◌, ◌<◌, ◌≤◌, length, slice_index, subst, sym, refl, ap, ◌∙◌, true≢false, inl}
 use Rattle.std.proofs.lemmas.List.{with_items_is}
 use Rattle.std.proofs.lemmas.Grind.{get_or_default_zero}
 use Rattle.std.proofs.lemmas.Nat.{pow_pos}
 use Rattle.std.specs.FinSet as set
 use Rattle.std.specs.Vec.{with_items}
-use Rattle.ck_words.specs.Tree.{IsConsistent, NoneOutFrom, TakesOut}
-use Rattle.ck_words.specs.Buddies.{IsApart, IsPlaced, IsFree, IsArenaOf, HasWordOut, Arena, piece, arena_of, with_out, AddsPiece}
+use Rattle.ck_words.specs.Buddies.{IsApart, IsPlaced, IsFree, IsArenaOf, HasWordOut, piece, arena_of, with_out, AddsPiece}
 use Rattle.ck_words.proofs.Members.{adds}
 use Rattle.ck_words.proofs.Arenas.{at_least, at_most, arena_apart, row_tall, row_from, row_to, row_in_tree, IsTaken, taken_row, row_enough, none_where_full, none_where_empty}
 use Rattle.ck_words.proofs.buddies.Buddies.take.Goals as goal
@@ -78,12 +77,12 @@ overflow_sub-self c =
     let inside = c.self.inside in
     subst (λ n. n ≤ inside.free) (sym c.words_of.ensures)
     (row_enough inside.first inside.log_len inside.log_min inside.free inside.halvings.items c.self.invariant
-        c.args.log c.descend-node.result c.deref.result.now c.deref_mut.result.now c.take_out.new.halvings
-        (at_least _ _ _ _ _ c.self.view_is c.args.log c.requires.least)
-        (at_most _ _ _ _ _ c.self.view_is c.args.log c.requires.most)
-        c.descend-node.ensures.from c.descend-node.ensures.to
-        c.deref.ensures.value c.descend-node.ensures.whole c.descend-node.ensures.path
-        c.deref_mut.ensures.value c.take_out.ensures.consistent c.take_out.auto.halvings c.take_out.ensures.out)
+    c.args.log c.descend-node.result c.deref.result.now c.deref_mut.result.now c.take_out.new.halvings
+    (at_least _ _ _ _ _ c.self.view_is c.args.log c.requires.least)
+    (at_most _ _ _ _ _ c.self.view_is c.args.log c.requires.most)
+    c.descend-node.ensures.from c.descend-node.ensures.to
+    c.deref.ensures.value c.descend-node.ensures.whole c.descend-node.ensures.path
+    c.deref_mut.ensures.value c.take_out.ensures.consistent c.take_out.auto.halvings c.take_out.ensures.out)
 
 pub invariant_of-self : goal.invariant_of-self
 invariant_of-self c =
