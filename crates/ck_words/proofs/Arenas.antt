@@ -176,3 +176,9 @@ none_where_empty a log most empty has_out =
     let length : 2 ^ log ≤ 2 ^ a.log_len = pow-le-pow_right {n = 2} (omega arith) most in
     let has = has_out a.first (0, (omega arith, omega arith)) in
     true≢false (sym has.1.1.1.0 ∙ ap (λ s. set.contains s has.1.1.0) empty ∙ set.contains-empty piece_cmp has.1.1.0)
+
+-- a piece of which no word is out isn't out
+pub not_out_of_free : (a : Arena) (p : Piece) → IsFree a p → ¬ IsOut a p
+not_out_of_free a p free out =
+    let positive = pow_pos p.log in
+    free p.at (omega arith, omega arith) (p, (out, (omega arith, omega arith)))

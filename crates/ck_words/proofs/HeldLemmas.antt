@@ -1,11 +1,10 @@
 -- A list of held pieces after one is taken and after one is given back.
 use Rattle.std.proofs.Common.{◌≡◌, ◌≢◌, ℕ, ◌⊎◌, inl, inr, ◌+◌, ◌<◌, ◌≤◌, List, [], ◌∷◌, ◌++◌, length, get_or, arith, refl, sym, ap, subst, ◌∙◌, length-append}
-use Rattle.std.proofs.lemmas.Nat.{pow_pos}
 use Rattle.std.proofs.lemmas.List.{get_or_append_left, get_or_default}
 use Rattle.std.proofs.Math.Seq.{get_or-append_seam}
 use Rattle.std.proofs.lemmas.List.Edits.{get_or-remove_below, get_or-remove_above, length-remove}
 use Rattle.std.specs.List.{remove}
-use Rattle.ck_words.specs.Buddies.{Piece, piece, Arena, IsOut, IsFree, AddsPiece, DropsPiece}
+use Rattle.ck_words.specs.Buddies.{Piece, piece, Arena, IsOut, AddsPiece, DropsPiece}
 use Rattle.ck_words.specs.Held.{held_at, Holds}
 use Rattle.ck_words.proofs.Words.{lt_or_ge}
 
@@ -13,14 +12,8 @@ use Rattle.ck_words.proofs.Words.{lt_or_ge}
 pub held_at_is : (held : List (ℕ × ℕ)) (i : ℕ) (x : ℕ × ℕ) → i < length held → x ≡ get_or held i x → held_at held i ≡ piece x.0 x.1
 held_at_is held i x within is = ap (λ (y : ℕ × ℕ). piece y.0 y.1) (get_or_default held i (0, 0) x within ∙ sym is)
 
--- a piece that is out isn't one that is free
-out_ne_free : (a : Arena) (p q : Piece) → IsOut a q → IsFree a p → q ≢ p
-out_ne_free a p q out free same =
-    let positive = pow_pos p.log in
-    free p.at (omega arith, omega arith) (p, (subst (IsOut a) same out, (omega arith, omega arith)))
-
 module _ (a b : Arena) (held : List (ℕ × ℕ)) (holds : Holds a held) where
-  module _ (at log : ℕ) (free : IsFree a (piece at log)) (adds : AddsPiece a b (piece at log)) where
+  module _ (at log : ℕ) (is_new : ¬ IsOut a (piece at log)) (adds : AddsPiece a b (piece at log)) where
     abbrev more : List (ℕ × ℕ)
     more = held ++ (at, log) ∷ []
 
@@ -34,7 +27,7 @@ module _ (a b : Arena) (held : List (ℕ × ℕ)) (holds : Holds a held) where
     new i is = ap (λ (x : ℕ × ℕ). piece x.0 x.1) (ap (λ k. get_or more k (0, 0)) is ∙ get_or-append_seam held (at, log) [] (0, 0))
 
     differ : (i j : ℕ) → i < length held → j ≡ length held → held_at more i ≢ held_at more j
-    differ i j less is same = out_ne_free a (piece at log) (held_at held i) (holds.out i less) free (sym (old i less) ∙ same ∙ new j is)
+    differ i j less is same = is_new (subst (IsOut a) (sym (old i less) ∙ same ∙ new j is) (holds.out i less))
 
     pub holds_more : Holds b more
     holds_more = record {

@@ -1,4 +1,4 @@
--- The tree over an arena of buddies, as the list of its nodes' halvings.
+-- The tree over an arena of buddies, as the list of its nodes' halvings. 26 stands for a node that is out, and 25 for one with nothing free.
 use Rattle.std.specs.Prelude.{◌≡◌, ◌≢◌, ℕ, zero, suc, ◌+◌, ◌*◌, ◌/◌, ◌<◌, ◌≤◌, ◌↔◌, ◌⊎◌, List, length, slice_index, min, nat_eq, if◌then◌else◌}
 
 -- the halvings of a node that isn't out, from those of its halves: 0 where both are free whole

@@ -33,7 +33,8 @@ impl Model for Blocks {
 }
 
 impl Blocks {
-    /// An arena of `count` blocks, all of them free.
+    /// An arena of `count` blocks, all of them free. The only error is want of memory: all that the
+    /// other calls need has its room from here.
     pub fn new(alloc: Global, first: u64, count: u64) -> Result<Self, AllocError>
         requires { first + 8 * count ≤ 2 ^ 32 }
         ensures { IfOk result (λ b. b ≡ record { first = first; count = count; out = set.empty }) }
@@ -45,7 +46,7 @@ impl Blocks {
         })
     }
 
-    /// Takes a block out, and gives its place.
+    /// Takes a block out, and gives the place of its first word. `None` where all blocks are out.
     pub fn take(&mut self) -> Option<u64>
         ensures placed { IfSome result (IsBlock self.old) }
         ensures was_free { IfSome result (λ at. ¬ IsOut self.old at) }

@@ -64,7 +64,8 @@ impl Model for Buddies {
 }
 
 impl Buddies {
-    /// An arena in which nothing is out.
+    /// An arena in which nothing is out. The only error is want of memory: all that the other calls
+    /// need has its room from here.
     pub fn new(alloc: Global, first: u64, log_len: u64, log_min: u64) -> Result<Self, AllocError>
         requires least { 3 ≤ log_min }
         requires whole { log_min ≤ log_len }
@@ -82,12 +83,14 @@ impl Buddies {
         })
     }
 
-    /// Takes a piece of `2 ^ log` words out, and gives its place.
+    /// Takes a piece of `2 ^ log` words out, and gives the place of its first word. `None` where no
+    /// range of that length, at a multiple of it from `first`, is free.
     pub fn take(&mut self, log: u64) -> Option<u64>
         requires least { self.old.log_min ≤ log }
         requires most { log ≤ self.old.log_len }
         ensures placed { IfSome result (λ at. IsPlaced self.old (piece at log)) }
         ensures was_free { IfSome result (λ at. IsFree self.old (piece at log)) }
+        ensures is_new { IfSome result (λ at. ¬ IsOut self.old (piece at log)) }
         ensures is_out { IfSome result (λ at. IsOut self.new (piece at log)) }
         ensures adds { IfSome result (λ at. AddsPiece self.old self.new (piece at log)) }
         ensures after { IfSome result (λ at. self.new ≡ with_out self.old (set.insert self.old.out (piece at log))) }

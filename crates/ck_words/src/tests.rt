@@ -5,9 +5,15 @@ use super::*;
 use std::alloc::{AllocError, Global};
 use std::test::Fail;
 
+/// Whether a value may be handed to another thread, and shared with it: it compiles.
+fn is_for_threads<T: Send + Sync>(_value: &T) -> bool {
+    true
+}
+
 #[test]
 fn buddies_split_and_merge(rt: HostRuntime) -> Result<(), Fail> {
     let mut pool = Buddies::new(rt.alloc(), 0, 6, 4)?;
+    assert!(rt; is_for_threads(&pool));
     let first = pool.take(4).ok_or("no piece of 16 words")?;
     let second = pool.take(5).ok_or("no piece of 32 words")?;
     let third = pool.take(4).ok_or("no second piece of 16 words")?;
@@ -25,6 +31,7 @@ fn buddies_split_and_merge(rt: HostRuntime) -> Result<(), Fail> {
 #[test]
 fn blocks_in_turn(rt: HostRuntime) -> Result<(), Fail> {
     let mut pool = Blocks::new(rt.alloc(), 0, 2)?;
+    assert!(rt; is_for_threads(&pool));
     let first = pool.take().ok_or("no block")?;
     let second = pool.take().ok_or("no second block")?;
     assert!(rt; first + 8 <= second || second + 8 <= first);

@@ -6,7 +6,7 @@ use Rattle.std.specs.FinSet as set
 use Rattle.std.specs.Vec.{with_items}
 use Rattle.ck_words.specs.Buddies.{IsApart, IsPlaced, IsFree, IsArenaOf, HasWordOut, piece, arena_of, with_out, AddsPiece}
 use Rattle.ck_words.proofs.Members.{adds}
-use Rattle.ck_words.proofs.Arenas.{at_least, at_most, arena_apart, row_tall, row_from, row_to, row_in_tree, IsTaken, taken_row, row_enough, none_where_full, none_where_empty}
+use Rattle.ck_words.proofs.Arenas.{at_least, at_most, arena_apart, row_tall, row_from, row_to, row_in_tree, IsTaken, taken_row, row_enough, none_where_full, none_where_empty, not_out_of_free}
 use Rattle.ck_words.proofs.buddies.Buddies.take.Goals as goal
 use Rattle.ck_words.proofs.buddies.Buddies.take.Goals.{After-place_of}
 
@@ -96,6 +96,9 @@ returns-clause-placed c = subst (λ a. IsPlaced a (piece c.place_of.result c.arg
 
 pub returns-clause-was_free : goal.returns-clause-was_free
 returns-clause-was_free c = subst (λ a. IsFree a (piece c.place_of.result c.args.log)) c.self.view_is (taken_here c).was_free
+
+pub returns-clause-is_new : goal.returns-clause-is_new
+returns-clause-is_new c = not_out_of_free c.args.self.now (piece c.place_of.result c.args.log) (returns-clause-was_free c)
 
 pub returns-clause-after : goal.returns-clause-after
 returns-clause-after c =
