@@ -13,7 +13,7 @@ use Rattle.ck_run.specs.Rule.{joined, AreParts, IsRun, IsClosed}
 use Rattle.ck_run.specs.Tokens.{Table, table, did, number, origin}
 use Rattle.ck_run.specs.Machine.{follows_of}
 use Rattle.ck_ring.specs.State.{Origin, Token, TokenState, start, ring, state, state_at, size_of}
-use Rattle.ck_ring.specs.Ring.{Took, Ascends, Rises, IsRing, IsRingOf}
+use Rattle.ck_ring.specs.Ring.{Took, Ascends, Rises, IsRingOf}
 use Rattle.ck_ring.specs.Ends.{joined_all, IsRingOrder, RingOrder, IsClosedRing, AreAll, IsServed}
 use Rattle.ck_ring.proofs.Moments.{ring_after}
 
