@@ -1,5 +1,5 @@
 -- What is known when a ring is closed.
-use Rattle.std.proofs.Common.{◌≡◌, ℕ, zero, suc, ◌<◌, ◌≤◌, List, [], ◌∷◌, ◌++◌, length, get_or, sym, refl, ap, ◌∙◌, subst, lt_of_not-le, All, arith}
+use Rattle.std.proofs.Common.{◌≡◌, ℕ, zero, suc, ◌+◌, ◌-◌, ◌<◌, ◌≤◌, List, [], ◌∷◌, ◌++◌, length, get_or, sym, refl, ap, ◌∙◌, subst, lt_of_not-le, All, arith}
 use Rattle.std.proofs.lemmas.List.Elements.{All-nil, All-cons, All-head, All-tail}
 use mathlib.Core.Option.{some, some-injective, some-ne-none}
 use mathlib.Core.Logic.{dite}
@@ -14,7 +14,7 @@ use Rattle.ck_run.specs.Tokens.{Table, table, did, number, origin}
 use Rattle.ck_run.specs.Machine.{follows_of}
 use Rattle.ck_ring.specs.State.{Origin, Token, TokenState, start, ring, state, state_at, size_of}
 use Rattle.ck_ring.specs.Ring.{Took, Ascends, Rises, IsRingOf}
-use Rattle.ck_ring.specs.Ends.{joined_all, IsRingOrder, RingOrder, IsClosedRing, AreAll, IsServed}
+use Rattle.ck_ring.specs.Ends.{joined_all, IsRingOrder, RingOrder, IsClosedRing, AreAll, AreNumbered, IsServed}
 use Rattle.ck_ring.proofs.Moments.{ring_after}
 
 pub joined_snoc : (v : View (Unit {0})) (cs : List Token) (c : Token) → joined_all v (cs ++ c ∷ []) ≡ joined (joined_all v cs) c.view
@@ -63,6 +63,15 @@ closed_ring p cs w v words e same all closed =
       consumers = All-both (λ (d : Token). origin d ≡ origin p) (λ (d : Token). account (number d) c.run ≡ did d) cs
           (All-map (λ (d : Token). table d ≡ w) (λ (d : Token). origin d ≡ origin p) cs (λ d h. ap (λ (x : Table (Unit {0})). x.origin) (h ∙ sym same)) all) a.1;
     }
+
+numbered_at : (n : ℕ) (cs : List Token) (k : ℕ) → AreNumbered n cs → k < length cs → (c : Token) × (get_elem? cs k ≡ some c) × (number c ≡ n + k)
+numbered_at n [] k h low = absurd (omega arith)
+numbered_at n (c ∷ cs) zero h low = (c, refl, h.0 ∙ omega arith)
+numbered_at n (c ∷ cs) (suc k) h low = let r = numbered_at (n + 1) cs k h.1 (omega arith) in (r.0, r.1, r.2 ∙ omega arith)
+
+-- consumers in their order are all
+pub all_numbered : (p : Token) (cs : List Token) → AreNumbered 1 cs → (origin p).tokens ≡ length cs + 1 → AreAll p cs
+all_numbered p cs h count n pos low = let r = numbered_at 1 cs (n - 1) h (omega arith) in (n - 1, r.0, r.1, r.2 ∙ omega arith)
 
 all_at : (P : Token → Type 0) (cs : List Token) (k : ℕ) (c : Token) → All P cs → get_elem? cs k ≡ some c → P c
 all_at P [] k c h e = absurd (some-ne-none c (sym e))
