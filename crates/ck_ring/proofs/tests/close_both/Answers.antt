@@ -12,4 +12,4 @@ close-requires-clause-all c =
     let is : c.push-2.new.self.items ≡ a ∷ b ∷ [] = c.in_ok-push-2.ensures.items
     ∙ ap (λ (l : List Token). l ++ b ∷ []) (c.in_ok-push.ensures.items ∙ ap (λ (l : List Token). l ++ a ∷ []) c.in_ok-given.ensures.items) in
     subst (AreAll c.args.p) (sym is)
-    (all_numbered c.args.p (a ∷ b ∷ []) (c.requires.numbers.0, c.requires.numbers.1, tt) (ap (λ (w : Table (Unit {0})). w.origin.tokens) c.requires.tables.0 ∙ c.requires.numbers.2))
+    (all_numbered c.args.p (a ∷ b ∷ []) (c.requires.numbers.0, (c.requires.numbers.1, tt)) (ap (λ (w : Table (Unit {0})). w.origin.tokens) c.requires.tables.0 ∙ c.requires.numbers.2))
