@@ -1,11 +1,11 @@
 -- What is said by a file that is read line by line.
-use Rattle.std.proofs.Common.{◌≡◌, ℕ, zero, suc, ◌+◌, ◌<◌, ◌≤◌, ◌⊎◌, List, [], ◌∷◌, ◌++◌, length, refl, ap, arith, ◌∙◌, sym, subst, inl, inr, append_assoc, append-nil, add-zero}
+use Rattle.std.proofs.Common.{◌≡◌, ℕ, suc, ◌+◌, ◌⊎◌, List, [], ◌∷◌, ◌++◌, length, refl, ap, arith, ◌∙◌, sym, subst, inl, inr, append_assoc, append-nil, add-zero}
 use Rattle.std.proofs.lemmas.List.{length_push}
 use Rattle.std.specs.List.{AllByRecursion}
 use Rattle.ck_script.specs.declared.line.Numbered.{Numbered}
 use Rattle.ck_script.specs.declared.fault.Why.{Why}
 use Rattle.ck_script.specs.declared.fault.ScriptFault.{ScriptFault}
-use Rattle.ck_script.specs.Text.{lines, words, IsSilent}
+use Rattle.ck_script.specs.Text.{lines, IsSilent}
 use Rattle.ck_script.specs.Grammar.{Says, Say, FileSays, Adds, IsFirstFault}
 use Rattle.ck_script.specs.Reading.{IsFaultyLine}
 

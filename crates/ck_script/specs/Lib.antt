@@ -5,3 +5,4 @@ pub mod Script
 pub mod Reading
 pub mod Faultless
 pub mod Checks
+pub mod Fronts
