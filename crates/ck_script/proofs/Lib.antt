@@ -5,3 +5,4 @@ pub mod Checking
 pub mod Ranges
 pub mod Fronts
 pub mod Circles
+pub mod Meaning

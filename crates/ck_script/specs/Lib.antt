@@ -6,3 +6,4 @@ pub mod Reading
 pub mod Faultless
 pub mod Checks
 pub mod Fronts
+pub mod Unique

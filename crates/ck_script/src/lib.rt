@@ -21,3 +21,6 @@ pub use key_word::KeyWord;
 pub use line::{AskLine, Numbered, UpLine};
 pub use parts::{cut, first_line};
 pub use read::{read_queries, read_updates};
+
+#[cfg(test)]
+mod tests;
