@@ -1,5 +1,5 @@
 -- Lines that ask for what can't come.
-use Rattle.std.proofs.Common.{◌≡◌, ℕ, suc, ◌+◌, ◌-◌, ◌<◌, ◌≤◌, drop, add-one, List, [], ◌∷◌, length, get_or, map, max, refl, ap, arith, ◌∙◌, sym, Option, Some, Vec, Global, zero}
+use Rattle.std.proofs.Common.{◌≡◌, ℕ, suc, ◌+◌, ◌-◌, ◌<◌, ◌≤◌, drop, add-one, List, [], ◌∷◌, length, get_or, map, max, refl, ap, arith, ◌∙◌, sym, Some, Vec, Global, zero}
 use Rattle.std.specs.List.{slice_get}
 use Rattle.std.specs.Option.{option_map}
 use Rattle.std.proofs.Math.Seq.{drop-cons}
@@ -25,10 +25,15 @@ pub queries_next : {A : Type 0} (lines : List (Numbered (AskLine A))) (i : ℕ) 
 queries_next lines i line what lt is says =
     ap (λ ls. length (queries 0 (said_of ls))) (drop_next lines i line lt is) ∙ ap (λ w. length (queries 0 (w ∷ said_of (drop (i + 1) lines)))) says
 
--- the file that stands at a place
+-- the query file that stands at a place
+pub query_file_next : {A : Type 0} (files : List (Vec (Numbered (AskLine A)) Global)) (i : ℕ) (file : Vec (Numbered (AskLine A)) Global) → i < length files → file ≡ get_or files i file → query_file (suc i) (map said_of (map (λ file. file.items) files)) ≡ Some (said_of file.items)
+query_file_next files i file lt is =
+    let here : slice_get files i ≡ Some file = slice_get_read files (length files) i file refl lt is in
+    slice_get-map said_of (map (λ file. file.items) files) i ∙ ap (option_map said_of) (slice_get-map (λ file. file.items) files i ∙ ap (option_map (λ file. file.items)) here)
+
+-- the query file of a number
 pub query_file_at : {A : Type 0} (files : List (Vec (Numbered (AskLine A)) Global)) (f : ℕ) (file : Vec (Numbered (AskLine A)) Global) → 0 < f → f ≤ length files → file ≡ get_or files (f - 1) file → query_file f (map said_of (map (λ file. file.items) files)) ≡ Some (said_of file.items)
 query_file_at files zero file pos le is = absurd (omega arith)
 query_file_at files (suc i) file pos le is =
     let place : suc i - 1 ≡ i = omega arith in
-    let here : slice_get files i ≡ Some file = slice_get_read files (length files) i file refl (omega arith) (rw place at is) in
-    slice_get-map said_of (map (λ file. file.items) files) i ∙ ap (option_map said_of) (slice_get-map (λ file. file.items) files i ∙ ap (option_map (λ file. file.items)) here)
+    query_file_next files i file (omega arith) (rw place at is)

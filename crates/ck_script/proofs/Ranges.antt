@@ -1,5 +1,5 @@
 -- Where no line is beyond, each query can be answered after the last update.
-use Rattle.std.proofs.Common.{◌≡◌, ℕ, ◌+◌, ◌<◌, ◌≤◌, nat_lt, Bool, true, false, cond, List, [], ◌∷◌, length, max, map, refl, arith, ◌∙◌, sym, subst, Option, Some, None}
+use Rattle.std.proofs.Common.{◌≡◌, ℕ, ◌+◌, ◌≤◌, nat_lt, Bool, true, false, cond, List, [], ◌∷◌, length, max, map, refl, arith, Option, Some, None}
 use Rattle.std.specs.List.{find, AllByRecursion}
 use Rattle.std.specs.Option.{option_map, option_or}
 use Rattle.std.proofs.lemmas.Bool.Decides.{nat_tests}
@@ -7,7 +7,6 @@ use Rattle.ck_script.specs.declared.line.Numbered.{Numbered}
 use Rattle.ck_script.specs.declared.line.UpLine.{UpLine}
 use Rattle.ck_script.specs.declared.line.AskLine.{AskLine}
 use Rattle.ck_script.specs.declared.line.AskLine.TheVariants.{Ask, Wait}
-use Rattle.ck_script.specs.declared.check.RangeFault.{RangeFault}
 use Rattle.ck_script.specs.Script.{said_of, updates, queries}
 use Rattle.ck_script.specs.Checks.{is_wait_beyond, is_hold_beyond, first_fault, first_wait_beyond, range_fault}
 

@@ -5,3 +5,5 @@ pub mod Script
 pub mod Reading
 pub mod Faultless
 pub mod Checks
+pub mod Fronts
+pub mod Unique
