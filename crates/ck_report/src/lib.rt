@@ -3,6 +3,8 @@
 
 mod asked;
 mod print;
+#[cfg(test)]
+mod tests;
 
 pub use asked::Asked;
 pub use print::report_map;
