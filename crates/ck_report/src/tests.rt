@@ -1,4 +1,4 @@
-use crate::{Asked, report_map};
+use crate::{Asked, ReportError, read_map_report, report_map};
 use ck_history::{Key, Reply};
 use std::alloc::{AllocError, Global};
 use std::test::Fail;
@@ -44,5 +44,76 @@ fn each_line_is_printed(rt: HostRuntime) -> Result<(), Fail> {
 q 2 1 7 = 10\nq 2 2 340282366920938463463374607431768211454 absent\n\
 t 7 = 10\nt 340282366920938463463374607431768211454 = 0\nend\n";
     assert_eq!(rt; text.as_slice(), lines.as_slice());
+    Ok(())
+}
+
+#[test]
+fn the_parts_are_read(rt: HostRuntime) -> Result<(), Fail> {
+    let text = b"u 1 fresh\nq 1 1 7 = 10\nq 3 1 7 absent\nt 7 = 10\nend\n";
+    let report = read_map_report(rt.alloc(), text.as_slice())
+        .ok()
+        .ok_or("a report")?;
+    let seven = key(7)?;
+    assert_eq!(rt; report.replies.as_slice(), [Reply::Fresh].as_slice());
+    assert_eq!(rt; report.pairs.as_slice(), [(seven, 10)].as_slice());
+    assert_eq!(rt; report.answers.len(), 2);
+    let found = [Asked {
+        key: seven,
+        found: Some(10),
+    }];
+    assert_eq!(rt; report.answers[0].0, 1);
+    assert_eq!(rt; report.answers[0].1.as_slice(), found.as_slice());
+    assert_eq!(rt; report.answers[1].0, 3);
+    assert_eq!(rt; report.answers[1].1[0].found, None);
+    Ok(())
+}
+
+// The line of the fault, or 0 for a report.
+fn fault_line(alloc: Global, text: &[u8]) -> Result<u64, Fail> {
+    match read_map_report::<Key>(alloc, text) {
+        Ok(_) => Ok(0),
+        Err(ReportError::Fault { line }) => Ok(line),
+        Err(ReportError::Memory) => Err(Fail::from("memory")),
+    }
+}
+
+const TEXTS: &[(&[u8], u64)] = &[
+    (b"u 1 fresh\nq 1 1 7 = 10\nt 7 = 10\nend\n", 0),
+    (b"u 1 fresh\nq 1 1 7 = 10\n", 3),
+    (b"q 1 1 7 = 10\nu 1 fresh\nt 7 = 10\nend\n", 2),
+    (b"", 1),
+    (b"end\n", 0),
+    (b"end", 1),
+    (b"u 1 fresh\nend", 2),
+    (b"end\nend\n", 2),
+    (b"end\n\n", 2),
+    (b"u 0 fresh\nend\n", 1),
+    (b"u 1 fresh\nu 3 fresh\nend\n", 2),
+    (b"u 01 fresh\nend\n", 1),
+    (b"u 1  fresh\nend\n", 1),
+    (b"u 1 fresh \nend\n", 1),
+    (b"u 1 fresh\r\nend\n", 1),
+    (b"u 1 was\nend\n", 1),
+    (b"u 1 was 18446744073709551615\nend\n", 0),
+    (b"u 1 was 18446744073709551616\nend\n", 1),
+    (b"q 64 1 7 absent\nend\n", 0),
+    (b"q 65 1 7 absent\nend\n", 1),
+    (b"q 0 1 7 absent\nend\n", 1),
+    (b"q 1 2 7 absent\nend\n", 1),
+    (b"q 2 1 7 absent\nq 1 1 7 absent\nend\n", 2),
+    (b"q 1 1 7 absent\nq 1 2 7 absent\nq 1 2 7 absent\nend\n", 3),
+    (b"t 9 = 1\nt 10 = 1\nend\n", 0),
+    (b"t 10 = 1\nt 9 = 1\nend\n", 2),
+    (b"t 7 = 1\nt 7 = 1\nend\n", 2),
+    (b"t 7 absent\nend\n", 1),
+    (b"t 0 = 1\nend\n", 1),
+    (b"t 7 = 1\nq 1 1 7 = 1\nend\n", 2),
+];
+
+#[test]
+fn the_first_fault_is_named(rt: HostRuntime) -> Result<(), Fail> {
+    for (text, line) in TEXTS {
+        assert_eq!(rt; fault_line(rt.alloc(), text)?, *line);
+    }
     Ok(())
 }
