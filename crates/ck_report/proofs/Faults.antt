@@ -76,8 +76,9 @@ module _ {K : Type 0} (IsKey : K → Type 0) (spelling : K → List ℕ) (cmp : 
       }
 
   -- a text that ends where the report does is read
-  pub whole : (bytes : List ℕ) (number : ℕ) (place : Place K) (read : Parts K) → Read bytes number [] place read → place ≡ AfterEnd → Reads IsKey spelling cmp bytes read
-  whole bytes number place read r over = record {
+  pub whole : (bytes : List ℕ) (number : ℕ) (rest : List ℕ) (place : Place K) (read : Parts K) → Read bytes number rest place read → length rest ≡ 0 → place ≡ AfterEnd → Reads IsKey spelling cmp bytes read
+  whole bytes number (b ∷ rest) place read r none over = absurd (omega arith)
+  whole bytes number [] place read r none over = record {
     named = r.holds.named;
     lawful = lawful IsKey spelling cmp place read.replies read.files read.pairs r.holds;
     printed = r.text ∙ (append-nil (text_of spelling r.lines) ∙ (r.same ∙ (ap (λ p. front_text spelling read.replies read.files read.pairs ++ end_text spelling p) over ∙ printed spelling read.replies read.files read.pairs r.holds.named)));
@@ -145,8 +146,9 @@ module _ {K : Type 0} (IsKey : K → Type 0) (spelling : K → List ℕ) (cmp : 
         }
 
     -- a text that stops before the report does lacks a line
-    pub stops_early : (bytes : List ℕ) (number : ℕ) (place : Place K) (read : Parts K) → Read bytes number [] place read → number + 1 < 2 ^ 64 → (place ≡ AfterEnd → ⊥) → IsFirstFault IsKey spelling cmp bytes (number + 1)
-    stops_early bytes number place read r small early =
+    pub stops_early : (bytes : List ℕ) (number : ℕ) (rest : List ℕ) (place : Place K) (read : Parts K) → Read bytes number rest place read → length rest ≡ 0 → number + 1 < 2 ^ 64 → (place ≡ AfterEnd → ⊥) → IsFirstFault IsKey spelling cmp bytes (number + 1)
+    stops_early bytes number (b ∷ rest) place read r none small early = absurd (omega arith)
+    stops_early bytes number [] place read r none small early =
         let before = map (chunk spelling) r.lines in
         let here = cut_so_far bytes number [] place read r (omega arith) in
         record {

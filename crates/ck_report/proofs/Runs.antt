@@ -1,7 +1,8 @@
 -- Lists of lines, each of which may follow the one before it.
-use Rattle.std.proofs.Common.{◌≡◌, ◌≢◌, ℕ, suc, ◌+◌, ◌<◌, ◌≤◌, ◌^◌, ◌⊎◌, inl, inr, Bool, true, false, Option, Some, None, List, [], ◌∷◌, ◌++◌, length, map, refl, ap, arith, sym, ◌∙◌, subst, append_assoc, codes, decimal, lit≤}
+use Rattle.std.proofs.Common.{◌≡◌, ℕ, ◌+◌, ◌<◌, ◌≤◌, ◌^◌, ◌⊎◌, inl, inr, Bool, true, ◌&&◌, ltb, Option, Some, None, List, [], ◌∷◌, ◌++◌, length, map, refl, ap, arith, sym, ◌∙◌, subst, append_assoc, codes, decimal, lit≤}
 use Rattle.std.specs.declared.cmp.Ordering.{Ordering}
 use Rattle.std.specs.List.{AllByRecursion, join_with_byte}
+use Rattle.std.proofs.lemmas.Bool.{ltb-true, and_parts}
 use Rattle.std.proofs.lemmas.Fmt.{decimal_injective}
 use Rattle.ck_history.specs.declared.update.Reply.{Reply}
 use Rattle.ck_history.specs.declared.update.Reply.TheVariants.{Fresh, Was, Has, Missing, Tidied, Full}
@@ -62,47 +63,39 @@ near_short n (Answer f i asked) near small = (omega arith, omega arith)
 near_short n (Pair key v) near small = tt
 near_short n End near small = tt
 
--- words that are written out
+-- a word of bytes above a space, by a test
+abbrev is_word : List ℕ → Bool
+is_word [] = true
+is_word (b ∷ w) = ltb 32 b && is_word w
 
-word_u : IsWord (codes "u")
-word_u = ((λ e. omega arith, λ e. omega arith), tt)
-
-word_q : IsWord (codes "q")
-word_q = ((λ e. omega arith, λ e. omega arith), tt)
-
-word_t : IsWord (codes "t")
-word_t = ((λ e. omega arith, λ e. omega arith), tt)
-
-word_is : IsWord (codes "=")
-word_is = ((λ e. omega arith, λ e. omega arith), tt)
-
-larger : (b : ℕ) (w : List ℕ) → 32 < b → IsWord w → IsWord (b ∷ w)
-larger b w h more = ((λ e. omega arith, λ e. omega arith), more)
-
-word_three : (a b c : ℕ) → 32 < a → 32 < b → 32 < c → IsWord (a ∷ b ∷ c ∷ [])
-word_three a b c ha hb hc = larger a (b ∷ c ∷ []) ha (larger b (c ∷ []) hb (larger c [] hc tt))
+word_from : (w : List ℕ) → is_word w ≡ true → IsWord w
+word_from [] e = tt
+word_from (b ∷ w) e =
+    let both = and_parts (ltb 32 b) (is_word w) e in
+    let above : 32 < b = ltb-true 32 b both.0 in
+    ((λ e. omega arith, λ e. omega arith), word_from w both.1)
 
 number_word : (n : ℕ) → n < 2 ^ 64 → IsWord (decimal n)
 number_word n small = let le : 2 ^ 64 ≤ 2 ^ 128 = lit≤ tt in decimal_one_word n (omega arith)
 
 reply_are_words : (r : Reply) → IsReply r → AllByRecursion IsWord (reply_words r)
-reply_are_words Fresh fits = (larger 102 _ (omega arith) (larger 114 _ (omega arith) (word_three 101 115 104 (omega arith) (omega arith) (omega arith))), tt)
-reply_are_words (Was v) fits = (word_three 119 97 115 (omega arith) (omega arith) (omega arith), (number_word v fits, tt))
-reply_are_words (Has v) fits = (word_three 104 97 115 (omega arith) (omega arith) (omega arith), (number_word v fits, tt))
-reply_are_words Missing fits = (larger 109 _ (omega arith) (larger 105 _ (omega arith) (larger 115 _ (omega arith) (larger 115 _ (omega arith) (word_three 105 110 103 (omega arith) (omega arith) (omega arith))))), tt)
-reply_are_words Tidied fits = (larger 116 _ (omega arith) (larger 105 _ (omega arith) (larger 100 _ (omega arith) (word_three 105 101 100 (omega arith) (omega arith) (omega arith)))), tt)
-reply_are_words Full fits = (larger 102 _ (omega arith) (word_three 117 108 108 (omega arith) (omega arith) (omega arith)), tt)
+reply_are_words Fresh fits = (word_from (codes "fresh") refl, tt)
+reply_are_words (Was v) fits = (word_from (codes "was") refl, (number_word v fits, tt))
+reply_are_words (Has v) fits = (word_from (codes "has") refl, (number_word v fits, tt))
+reply_are_words Missing fits = (word_from (codes "missing") refl, tt)
+reply_are_words Tidied fits = (word_from (codes "tidied") refl, tt)
+reply_are_words Full fits = (word_from (codes "full") refl, tt)
 
 found_are_words : (f : Option ℕ) → IsFound f → AllByRecursion IsWord (found_words f)
-found_are_words (Some v) fits = (word_is, (number_word v fits, tt))
-found_are_words None fits = (larger 97 _ (omega arith) (larger 98 _ (omega arith) (larger 115 _ (omega arith) (word_three 101 110 116 (omega arith) (omega arith) (omega arith)))), tt)
+found_are_words (Some v) fits = (word_from (codes "=") refl, (number_word v fits, tt))
+found_are_words None fits = (word_from (codes "absent") refl, tt)
 
 module _ {K : Type 0} (IsKey : K → Type 0) (spelling : K → List ℕ) (cmp : K → K → Ordering) (one_key : (j k : K) → IsKey j → IsKey k → spelling j ≡ spelling k → j ≡ k) (one_word : (k : K) → IsKey k → IsWord (spelling k)) where
   pub line_are_words : (said : ReportLine K) → IsTaken IsKey said → IsShort said → AllByRecursion IsWord (line_words spelling said)
-  line_are_words (Update i reply) taken short = (word_u, (number_word i short, reply_are_words reply taken))
-  line_are_words (Answer f i asked) taken short = (word_q, (number_word f short.0, (number_word i short.1, (one_word asked.key taken.0, found_are_words asked.found taken.1))))
-  line_are_words (Pair key v) taken short = (word_t, (one_word key taken.0, (word_is, (number_word v taken.1, tt))))
-  line_are_words End taken short = (word_three 101 110 100 (omega arith) (omega arith) (omega arith), tt)
+  line_are_words (Update i reply) taken short = (word_from (codes "u") refl, (number_word i short, reply_are_words reply taken))
+  line_are_words (Answer f i asked) taken short = (word_from (codes "q") refl, (number_word f short.0, (number_word i short.1, (one_word asked.key taken.0, found_are_words asked.found taken.1))))
+  line_are_words (Pair key v) taken short = (word_from (codes "t") refl, (one_word key taken.0, (word_from (codes "=") refl, (number_word v taken.1, tt))))
+  line_are_words End taken short = (word_from (codes "end") refl, tt)
 
   some_words : (said : ReportLine K) → 0 < length (line_words spelling said)
   some_words (Update i reply) = omega arith

@@ -50,30 +50,31 @@ t 7 = 10\nt 340282366920938463463374607431768211454 = 0\nend\n";
 #[test]
 fn the_parts_are_read(rt: HostRuntime) -> Result<(), Fail> {
     let text = b"u 1 fresh\nq 1 1 7 = 10\nq 3 1 7 absent\nt 7 = 10\nend\n";
-    let report = read_map_report(rt.alloc(), text.as_slice())
-        .ok()
-        .ok_or("a report")?;
+    let report = read_map_report(rt.alloc(), text.as_slice())?;
     let seven = key(7)?;
     assert_eq!(rt; report.replies.as_slice(), [Reply::Fresh].as_slice());
     assert_eq!(rt; report.pairs.as_slice(), [(seven, 10)].as_slice());
     assert_eq!(rt; report.answers.len(), 2);
-    let found = [Asked {
-        key: seven,
-        found: Some(10),
-    }];
-    assert_eq!(rt; report.answers[0].0, 1);
-    assert_eq!(rt; report.answers[0].1.as_slice(), found.as_slice());
-    assert_eq!(rt; report.answers[1].0, 3);
-    assert_eq!(rt; report.answers[1].1[0].found, None);
+    for ((file, answers), (number, found)) in report
+        .answers
+        .iter()
+        .zip([(1, Some(10)), (3, None)])
+    {
+        assert_eq!(rt; *file, number);
+        assert_eq!(rt;
+            answers.as_slice(),
+            [Asked { key: seven, found }].as_slice()
+        );
+    }
     Ok(())
 }
 
 // The line of the fault, or 0 for a report.
-fn fault_line(alloc: Global, text: &[u8]) -> Result<u64, Fail> {
+fn fault_line(alloc: Global, text: &[u8]) -> Result<u64, ReportError> {
     match read_map_report::<Key>(alloc, text) {
         Ok(_) => Ok(0),
         Err(ReportError::Fault { line }) => Ok(line),
-        Err(ReportError::Memory) => Err(Fail::from("memory")),
+        Err(ReportError::Memory) => Err(ReportError::Memory),
     }
 }
 
