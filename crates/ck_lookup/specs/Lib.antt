@@ -1,4 +1,5 @@
 pub mod Words
+pub mod Parser
 pub mod Headline
 pub mod Causes
 pub mod Running
