@@ -1,5 +1,5 @@
 -- From what `clap` and the checks say of the words to the command that they ask for.
-use Rattle.std.proofs.Common.{◌≡◌, ◌≢◌, ℕ, Bool, true, false, cond, not, ◌==◌, ◌&&◌, ◌<◌, ◌≤◌, ◌^◌, List, [], ◌∷◌, map, drop, length, take, get_or, Option, Some, None, refl, ap, ap₂, sym, ◌∙◌, subst, codes, decimal, arith, inl, inr, ◌⊎◌, le-leb, leb-true, string_bytes, String, Bor}
+use Rattle.std.proofs.Common.{◌≡◌, ℕ, Bool, true, false, cond, not, ◌==◌, ◌&&◌, ◌<◌, ◌≤◌, ◌^◌, List, [], ◌∷◌, map, drop, length, Option, Some, None, refl, ap, sym, ◌∙◌, subst, codes, decimal, arith, inl, inr, ◌⊎◌, le-leb, leb-true, string_bytes, String, Bor}
 use Rattle.std.specs.Prelude.{MatchOption, option_map, option_and_then, unwrap_or, slice_get, find, nat_le}
 use Rattle.std.specs.List.{list_all}
 use Rattle.std.specs.Str.{bytes_eq}
@@ -15,8 +15,10 @@ use Rattle.clap.specs.Faults.{fault_of}
 use Rattle.clap.specs.declared.error.kind.ErrorKind.{ErrorKind}
 use Rattle.clap.specs.declared.error.kind.ErrorKind.TheVariants.{OutOfMemory}
 use Rattle.ck_lookup.specs.Parser.{table_app}
-use Rattle.ck_lookup.specs.Words.{Said, are_file_names, command_of, command_said, nothing_said, read, said_after, setting}
-use Rattle.ck_lookup.proofs.Walking.{AllTexts, IsWrong, Tells, one, parses}
+use Rattle.ck_lookup.specs.Words.{Said, are_file_names, command_said, nothing_said, read, said_after, setting}
+use Rattle.ck_lookup.proofs.Rows.{Tells, one}
+use Rattle.ck_lookup.proofs.Turns.{IsWrong}
+use Rattle.ck_lookup.proofs.Walking.{AllTexts, parses}
 
 all_texts : {Z : Type 0} (xs : List (String Z)) → AllTexts (map string_bytes xs)
 all_texts [] = tt

@@ -46,9 +46,9 @@ nothing_said = record { seed = None; workers = None; files = [] }
 -- an option is `--seed` or `--workers`, and has its value once
 abbrev pub with_value : List ℕ → List ℕ → Said → Option Said
 with_value name value said =
-  if bytes_eq (codes "seed") name then (if is_some said.seed then None else Some (record said { seed = Some value }))
-  else if bytes_eq (codes "workers") name then (if is_some said.workers then None else Some (record said { workers = Some value }))
-  else None
+    if bytes_eq (codes "seed") name then (if is_some said.seed then None else Some (record said { seed = Some value }))
+    else if bytes_eq (codes "workers") name then (if is_some said.workers then None else Some (record said { workers = Some value }))
+    else None
 
 -- what a word says, and then what `rest` makes of the words after it, given the option that waits for its value
 abbrev pub say : Word → List ℕ → List (List ℕ) → Said → (Option (List ℕ) → Said → Option Said) → Option Said
@@ -73,7 +73,7 @@ number_of word = if bytes_eq (decimal (digits_value 10 word)) word then Some (di
 abbrev pub setting : ℕ → ℕ → ℕ → Option (List ℕ) → Option ℕ
 setting least most missing None = Some missing
 setting least most missing (Some word) =
-  option_and_then (λ n. if nat_le least n && nat_le n most then Some n else None) (number_of word)
+    option_and_then (λ n. if nat_le least n && nat_le n most then Some n else None) (number_of word)
 
 -- there are from 2 to 65 files, and no name is empty
 abbrev pub are_file_names : List (List ℕ) → Bool
@@ -81,15 +81,15 @@ are_file_names files = nat_le 2 (length files) && (nat_le (length files) 65 && l
 
 abbrev pub command_with : Option ℕ → Option ℕ → List (List ℕ) → Option Command
 command_with (Some seed) (Some workers) (updates ∷ queries) =
-  if are_file_names (updates ∷ queries)
-  then Some (record { seed = seed; workers = workers; updates = updates; queries = queries })
-  else None
+    if are_file_names (updates ∷ queries)
+    then Some (record { seed = seed; workers = workers; updates = updates; queries = queries })
+    else None
 command_with _ _ _ = None
 
 -- the command that was said: the seed is any number of 64 bits and 0 by default, the workers are 1 to 16 and 4 by default
 abbrev pub command_said : Said → Option Command
 command_said said =
-  command_with (setting 0 18446744073709551615 0 said.seed) (setting 1 16 4 said.workers) said.files
+    command_with (setting 0 18446744073709551615 0 said.seed) (setting 1 16 4 said.workers) said.files
 
 -- the command that the words after the kind say
 abbrev pub said_after : List (List ℕ) → Option Command

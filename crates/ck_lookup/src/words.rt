@@ -4,11 +4,10 @@ ghost use Rattle.clap.specs.Simple.{app_of};
 ghost use Rattle.ck_lookup.specs.Parser.{table_app};
 ghost use Rattle.ck_lookup.specs.Words.{are_file_names, command_of, command_said, said_after, setting};
 
-use std::alloc::{AllocError, Global};
-
 use ck_script::read_decimal;
 use clap::error::ErrorKind;
 use clap::{Arg, ArgAction};
+use std::alloc::{AllocError, Global};
 
 /// What the words of the command line ask for.
 #[derive(Debug, Drop)]
@@ -29,7 +28,7 @@ pub fn read_words<'a>(alloc: Global, words: &'a [String]) -> Result<Option<Comma
     ensures { IfOk result (λ answer. MatchOption answer
         (command_of (map string_bytes words.now) ≡ None)
         (λ c. command_of (map string_bytes words.now)
-            ≡ Some (record { seed = c.seed; workers = c.workers; updates = c.updates.now; queries = map (λ name. name.now) c.queries.items }))) }
+        ≡ Some (record { seed = c.seed; workers = c.workers; updates = c.updates.now; queries = map (λ name. name.now) c.queries.items }))) }
 {
     match words {
         [kind, ..] if kind.as_str() == "table" => read_table(alloc, words),
@@ -38,17 +37,22 @@ pub fn read_words<'a>(alloc: Global, words: &'a [String]) -> Result<Option<Comma
 }
 
 // The command that was said: its numbers and names are within their limits.
-fn command_said<'a>(alloc: Global, seed: Option<&str>, workers: Option<&str>, files: &[&'a str]) -> Result<Option<Command<'a>>, AllocError>
+fn command_said<'a>(
+    alloc: Global,
+    seed: Option<&str>,
+    workers: Option<&str>,
+    files: &[&'a str],
+) -> Result<Option<Command<'a>>, AllocError>
     ensures { IfOk result (λ answer. MatchOption answer
         (command_said (record {
-            seed = option_map (λ word. word.now) seed.entry;
-            workers = option_map (λ word. word.now) workers.entry;
-            files = map (λ name. name.now) files.now
+          seed = option_map (λ word. word.now) seed.entry;
+          workers = option_map (λ word. word.now) workers.entry;
+          files = map (λ name. name.now) files.now;
         }) ≡ None)
         (λ c. command_said (record {
-            seed = option_map (λ word. word.now) seed.entry;
-            workers = option_map (λ word. word.now) workers.entry;
-            files = map (λ name. name.now) files.now
+          seed = option_map (λ word. word.now) seed.entry;
+          workers = option_map (λ word. word.now) workers.entry;
+          files = map (λ name. name.now) files.now;
         }) ≡ Some (record { seed = c.seed; workers = c.workers; updates = c.updates.now; queries = map (λ name. name.now) c.queries.items }))) }
 {
     if !are_file_names(files) {
@@ -110,7 +114,7 @@ fn read_table<'a>(alloc: Global, words: &'a [String]) -> Result<Option<Command<'
     ensures { IfOk result (λ answer. MatchOption answer
         (said_after (drop 1 (map string_bytes words.now)) ≡ None)
         (λ c. said_after (drop 1 (map string_bytes words.now))
-            ≡ Some (record { seed = c.seed; workers = c.workers; updates = c.updates.now; queries = map (λ name. name.now) c.queries.items }))) }
+        ≡ Some (record { seed = c.seed; workers = c.workers; updates = c.updates.now; queries = map (λ name. name.now) c.queries.items }))) }
 {
     match table_parser(alloc)?.try_get_matches_from(words) {
         Ok(matches) => command_said(
@@ -133,9 +137,14 @@ fn table_parser<'a>(alloc: Global) -> Result<clap::Command<'a>, AllocError>
     let seed = Arg::new(alloc, "seed").long("seed");
     let workers = Arg::new(alloc, "workers").long("workers");
     let files = Arg::new(alloc, "file").action(ArgAction::Append);
-    Ok(clap::Command::new(alloc, "table")
-        .arg(seed)?
-        .arg(workers)?
-        .arg(files)?
-        .disable_help_flag(true))
+    Ok(
+        clap::Command::new(alloc, "table")
+            .arg(seed)?
+            .arg(workers)?
+            .arg(files)?
+            .disable_help_flag(true),
+    )
 }
+
+#[cfg(test)]
+mod tests;

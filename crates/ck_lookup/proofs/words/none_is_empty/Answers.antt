@@ -1,4 +1,4 @@
-use Rattle.std.proofs.Common.{rules, arith, sym, ap, true, false, not, ◌∙◌, ◌≡◌, ◌==◌, ◌≤◌, length, get_or, take, List, [], ℕ, Bool, Bor}
+use Rattle.std.proofs.Common.{arith, sym, ap, not, ◌∙◌, ◌≡◌, ◌==◌, length, take, List, [], ℕ, Bool, Bor}
 use Rattle.std.specs.List.{list_all}
 use Rattle.std.proofs.lemmas.List.{take_all}
 use Rattle.std.proofs.lemmas.List.Folds.{list_all-map, list_all_at}

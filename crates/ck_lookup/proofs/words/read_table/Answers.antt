@@ -1,13 +1,12 @@
-use Rattle.std.proofs.Common.{rules, arith, ap, ap₂, subst, sym, refl, true, map, ◌∙◌, ◌≡◌, List, [], ℕ, Bor, codes, string_bytes, option_map, inl}
-use Rattle.std.specs.Prelude.{unwrap_or, drop}
-use Rattle.clap.specs.Walk.{first_of, all_of, rows_of}
-use Rattle.clap.specs.Simple.{app_of, is_simple, matches_of}
+use Rattle.std.proofs.Common.{rules, ap, subst, sym, map, ◌∙◌, List, [], ℕ, Bor, codes, string_bytes}
+use Rattle.std.specs.Prelude.{unwrap_or}
+use Rattle.clap.specs.Walk.{rows_of}
+use Rattle.clap.specs.Simple.{is_simple, matches_of}
 use Rattle.clap.specs.Faults.{fault_of, is_simple_and_free}
 use Rattle.clap.specs.Kinds.{HasKind}
 use Rattle.clap.specs.Matches.{found_of}
 use Rattle.clap.proofs.WalkLemmas.{first_value-rows, raw_values-rows}
-use Rattle.ck_lookup.specs.Parser.{table_app}
-use Rattle.ck_lookup.specs.Words.{Said, command_said, said_after}
+use Rattle.ck_lookup.specs.Words.{command_said}
 use Rattle.ck_lookup.proofs.Parsing.{refused_words, taken_words, files_given}
 use Rattle.ck_lookup.proofs.words.read_table.Goals as goal
 

@@ -1,4 +1,4 @@
-use Rattle.std.proofs.Common.{rules, arith, sym, ap, ◌∙◌, ◌<◌, ◌≤◌, ◌^◌, ◌≡◌, Some, Bor, List, ℕ}
+use Rattle.std.proofs.Common.{rules, arith, sym, ap, ◌∙◌, ◌≡◌, Some, Bor, List, ℕ}
 use Rattle.std.specs.Prelude.{option_map}
 use Rattle.ck_lookup.specs.Words.{setting}
 use Rattle.ck_lookup.proofs.Parsing.{setting_some, setting_low}
