@@ -122,11 +122,3 @@ setting_none least most missing word none = go (bytes_eq (decimal n) word) (nat_
     go false q same within = rw same refl
     go true false same within = rw (same, within, and_false (nat_le least n)) refl
     go true true same within = absurd (none n (leb-true n most within) ((bytes_eq-Decides (decimal n) word).0 same))
-
-abbrev now_of : List (Bor Text) → List Text
-now_of = map (λ name. name.now)
-
-pub are_names : (xs : List (Bor Text)) (b : Bool) → 2 ≤ length xs → length xs ≤ 65 → b ≡ list_all (λ name. not (length name == 0)) (now_of xs) → b ≡ are_file_names (now_of xs)
-are_names xs b two most e =
-    let n : length (now_of xs) ≡ length xs = length-map xs (λ (name : Bor Text). name.now) in
-    e ∙ sym (ap (λ k. nat_le 2 k && (nat_le k 65 && list_all (λ (name : Text). not (length name == 0)) (now_of xs))) n ∙ rw (le-leb 2 (length xs) two, le-leb (length xs) 65 most) refl)
