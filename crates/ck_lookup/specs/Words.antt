@@ -40,6 +40,7 @@ pub record Said : Type 0 where
   pub workers : Option (List ℕ)
   pub files : List (List ℕ)
 
+-- before the first word
 abbrev pub nothing_said : Said
 nothing_said = record { seed = None; workers = None; files = [] }
 
@@ -79,6 +80,7 @@ setting least most missing (Some word) =
 abbrev pub are_file_names : List (List ℕ) → Bool
 are_file_names files = nat_le 2 (length files) && (nat_le (length files) 65 && list_all (λ name. not (length name == 0)) files)
 
+-- the command of these numbers and files, where they are within their limits
 abbrev pub command_with : Option ℕ → Option ℕ → List (List ℕ) → Option Command
 command_with (Some seed) (Some workers) (updates ∷ queries) =
     if are_file_names (updates ∷ queries)
