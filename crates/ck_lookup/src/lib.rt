@@ -10,5 +10,8 @@ mod scripts;
 mod table;
 mod words;
 
+#[cfg(test)]
+mod tests;
+
 pub use lookup::run;
 pub use outcome::{Outcome, line_of};
