@@ -1,4 +1,5 @@
 pub mod Words
+pub mod Parser
 pub mod Limits
 pub mod Headline
 pub mod Causes

@@ -1,7 +1,9 @@
 -- How the words of the command line are read.
-use Rattle.std.specs.Prelude.{ℕ, Bool, false, not, ◌==◌, ◌&&◌, ◌||◌, if◌then◌else◌, List, [], ◌∷◌, length, Option, Some, None, codes, bytes_eq}
+use Rattle.std.specs.Prelude.{ℕ, Bool, not, ◌==◌, ◌&&◌, if◌then◌else◌, List, [], ◌∷◌, ◌++◌, length, Option, Some, None, is_some, option_and_then, codes, bytes_eq, nat_le, decimal}
+use Rattle.std.specs.List.{list_all, list_any, before_first, after_first}
+use Rattle.std.specs.Str.Parse.{digits_value}
 
--- what a run is asked: the seed, how many threads read, and the names of its update file and of its query files
+-- what a run is asked: the seed of its delays, how many threads read, and the names of its update file and of its query files
 pub record Command : Type 0 where
   pub seed : ℕ
   pub workers : ℕ
@@ -12,15 +14,90 @@ pub record Command : Type 0 where
 abbrev pub names : Command → List (List ℕ)
 names c = c.updates ∷ c.queries
 
--- a file's name isn't empty, and begins with `-` only where it is that alone
-abbrev pub is_file_name : List ℕ → Bool
-is_file_name [] = false
-is_file_name (b ∷ more) = not (b == 45) || (length more == 0)
+-- what a word is where no option waits for its value: a file's name, an option's name with the value after a `=`, the end
+-- of the options, or nothing of the form
+pub data Word : Type 0 where
+  file : Word
+  option : List ℕ → Option (List ℕ) → Word
+  end : Word
+  other : Word
 
--- `table UPDATES QUERY`, and nothing else
+-- what `--` and these bytes are: the option's name goes to the first `=`
+abbrev pub long_word : List ℕ → Word
+long_word [] = end
+long_word (b ∷ rest) = option
+    (before_first (λ x. x == 61) (b ∷ rest))
+    (if list_any (λ x. x == 61) (b ∷ rest) then Some (after_first (λ x. x == 61) (b ∷ rest)) else None)
+
+-- `-` alone, and all that doesn't begin with `-`, is a file's name
+abbrev pub word_of : List ℕ → Word
+word_of (a ∷ b ∷ rest) = if a == 45 then (if b == 45 then long_word rest else other) else file
+word_of _ = file
+
+-- what words have said, as it is written: the values of the options, and the names of the files
+pub record Said : Type 0 where
+  pub seed : Option (List ℕ)
+  pub workers : Option (List ℕ)
+  pub files : List (List ℕ)
+
+-- before the first word
+abbrev pub nothing_said : Said
+nothing_said = record { seed = None; workers = None; files = [] }
+
+-- an option is `--seed` or `--workers`, and has its value once
+abbrev pub with_value : List ℕ → List ℕ → Said → Option Said
+with_value name value said =
+    if bytes_eq (codes "seed") name then (if is_some said.seed then None else Some (record said { seed = Some value }))
+    else if bytes_eq (codes "workers") name then (if is_some said.workers then None else Some (record said { workers = Some value }))
+    else None
+
+-- what a word says, and then what `rest` makes of the words after it, given the option that waits for its value
+abbrev pub say : Word → List ℕ → List (List ℕ) → Said → (Option (List ℕ) → Said → Option Said) → Option Said
+say file word more said rest = rest None (record said { files = said.files ++ word ∷ [] })
+say (option name None) word more said rest = rest (Some name) said
+say (option name (Some value)) word more said rest = option_and_then (rest None) (with_value name value said)
+say end word more said rest = Some (record said { files = said.files ++ more })
+say other word more said rest = None
+
+-- the words from left to right; an option that waits takes the next word for its value, whatever it is
+abbrev pub read : List (List ℕ) → Option (List ℕ) → Said → Option Said
+read [] None said = Some said
+read [] (Some name) said = None
+read (word ∷ more) None said = say (word_of word) word more said (read more)
+read (word ∷ more) (Some name) said = option_and_then (read more None) (with_value name word said)
+
+-- the number whose one spelling, without sign and leading zeros, the word is
+abbrev pub number_of : List ℕ → Option ℕ
+number_of word = if bytes_eq (decimal (digits_value 10 word)) word then Some (digits_value 10 word) else None
+
+-- the option's number, from `least` to `most`, or what it is where it isn't said
+abbrev pub setting : ℕ → ℕ → ℕ → Option (List ℕ) → Option ℕ
+setting least most missing None = Some missing
+setting least most missing (Some word) =
+    option_and_then (λ n. if nat_le least n && nat_le n most then Some n else None) (number_of word)
+
+-- there are from 2 to 65 files, and no name is empty
+abbrev pub are_file_names : List (List ℕ) → Bool
+are_file_names files = nat_le 2 (length files) && (nat_le (length files) 65 && list_all (λ name. not (length name == 0)) files)
+
+-- the command of these numbers and files, where they are within their limits
+abbrev pub command_with : Option ℕ → Option ℕ → List (List ℕ) → Option Command
+command_with (Some seed) (Some workers) (updates ∷ queries) =
+    if are_file_names (updates ∷ queries)
+    then Some (record { seed = seed; workers = workers; updates = updates; queries = queries })
+    else None
+command_with _ _ _ = None
+
+-- the command that was said: the seed is any number of 64 bits and 0 by default, the workers are 1 to 16 and 4 by default
+abbrev pub command_said : Said → Option Command
+command_said said =
+    command_with (setting 0 18446744073709551615 0 said.seed) (setting 1 16 4 said.workers) said.files
+
+-- the command that the words after the kind say
+abbrev pub said_after : List (List ℕ) → Option Command
+said_after words = option_and_then command_said (read words None nothing_said)
+
+-- the command that the words ask for: `table`, and then options and files
 abbrev pub command_of : List (List ℕ) → Option Command
-command_of (kind ∷ updates ∷ query ∷ []) =
-  if bytes_eq kind (codes "table") && (is_file_name updates && is_file_name query)
-  then Some (record { seed = 0; workers = 4; updates = updates; queries = query ∷ [] })
-  else None
-command_of _ = None
+command_of [] = None
+command_of (kind ∷ words) = if bytes_eq kind (codes "table") then said_after words else None

@@ -15,4 +15,4 @@ pub returns-clause-only : goal.returns-clause-only
 returns-clause-only g c other says =
     let ends = eqb-true _ _ (sym c.is_empty.ensures ∙ c.loop-rest-test.false) in
     let read = read_all g.L.ScriptLine.is_taken g.L.ScriptLine.spelling _ _ _ _ c.loop-rest.invariant.read ends in
-    says_one g.L.ScriptLine.is_taken g.L.ScriptLine.spelling g.L.ScriptLine.one_line g.L.ScriptLine.speaks c.args.bytes.now other c.loop-rest.said.items says read
+    says_one g.L.ScriptLine.is_taken g.L.ScriptLine.spelling g.met.L.ScriptLine.one_line g.met.L.ScriptLine.speaks c.args.bytes.now other c.loop-rest.said.items says read
