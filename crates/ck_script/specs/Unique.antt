@@ -1,7 +1,7 @@
 -- No two lines have the same words, and no line that speaks has the words of a silent one.
-use Rattle.std.specs.Prelude.{◌≡◌, ℕ, ◌⊎◌, List, [], ◌∷◌, codes, decimal, ◌==◌, refl}
-use Rattle.std.proofs.Common.{get_or, inl, inr, ap, arith, ◌∙◌, sym, false}
-use Rattle.std.specs.List.{slice_split, onto_first}
+use Rattle.std.specs.Prelude.{◌≡◌, ℕ, ◌⊎◌, List, [], ◌∷◌, decimal, ◌==◌, refl}
+use Rattle.std.proofs.Common.{get_or, inl, inr, ap, arith, ◌∙◌}
+use Rattle.std.specs.List.{onto_first}
 use Rattle.std.proofs.lemmas.Bool.{ne_eqb}
 use Rattle.std.proofs.lemmas.List.Splits.{slice_split-cons_no}
 use Rattle.ck_history.specs.declared.update.Update.{Update}
