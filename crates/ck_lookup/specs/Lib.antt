@@ -1,5 +1,7 @@
 pub mod Words
+pub mod Limits
 pub mod Headline
 pub mod Causes
 pub mod Running
+pub mod Fetching
 pub mod Outcomes

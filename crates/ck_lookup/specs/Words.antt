@@ -1,8 +1,10 @@
 -- How the words of the command line are read.
 use Rattle.std.specs.Prelude.{ℕ, Bool, false, not, ◌==◌, ◌&&◌, ◌||◌, if◌then◌else◌, List, [], ◌∷◌, length, Option, Some, None, codes, bytes_eq}
 
--- the names of the files of a run: the update file, and the query files
+-- what a run is asked: the seed, how many threads read, and the names of its update file and of its query files
 pub record Command : Type 0 where
+  pub seed : ℕ
+  pub workers : ℕ
   pub updates : List ℕ
   pub queries : List (List ℕ)
 
@@ -19,6 +21,6 @@ is_file_name (b ∷ more) = not (b == 45) || (length more == 0)
 abbrev pub command_of : List (List ℕ) → Option Command
 command_of (kind ∷ updates ∷ query ∷ []) =
   if bytes_eq kind (codes "table") && (is_file_name updates && is_file_name query)
-  then Some (record { updates = updates; queries = query ∷ [] })
+  then Some (record { seed = 0; workers = 4; updates = updates; queries = query ∷ [] })
   else None
 command_of _ = None

@@ -1,7 +1,7 @@
 ghost use Rattle.std.specs.Prelude.{◌≡◌, IfOk, string_bytes};
 ghost use Rattle.ck_lookup.specs.Outcomes.{text_of, why_text};
 
-use std::alloc::{AllocError, Global};
+use std::alloc::{AllocError, AllocFailed, Global};
 
 use ck_script::Why;
 
@@ -87,6 +87,17 @@ impl From<AllocError> for Outcome {
     ghost from_gives = { λ _ outcome. outcome ≡ NoMemory };
 
     fn from(_: AllocError) -> Outcome {
+        Outcome::NoMemory
+    }
+}
+
+impl<T: Drop> From<AllocFailed<T>> for Outcome {
+    ghost use Rattle.std.specs.Prelude.{◌≡◌};
+    ghost use Rattle.ck_lookup.specs.declared.outcome.Outcome.TheVariants.{NoMemory};
+
+    ghost from_gives = { λ _ outcome. outcome ≡ NoMemory };
+
+    fn from(_: AllocFailed<T>) -> Outcome {
         Outcome::NoMemory
     }
 }

@@ -40,6 +40,9 @@ decimal_tells m n hm hn e =
     let read_n = decimal_is_IsNumeral_wide n (omega arith) in
     sym read_m.1 ∙ (ap (digits_value 10) e ∙ read_n.1)
 
+pub one_number : (m n : ℕ) → m < 2 ^ 64 → n < 2 ^ 64 → decimal m ≡ decimal n → m ≡ n
+one_number m n hm hn e = decimal_tells m n (omega arith) (omega arith) e
+
 pub one_table_key : (j k : ℕ) → IsKey j → IsKey k → decimal j ≡ decimal k → j ≡ k
 one_table_key j k hj hk e = decimal_tells j k (omega arith) (omega arith) e
 

@@ -1,12 +1,10 @@
 ghost use Rattle.std.specs.Prelude.{◌≡◌, ◌++◌, MatchResult, OnOk, OnErr};
 
-use std::alloc::AllocError;
-
-use ck_history::Key;
-use itoa::Buffer;
-
 use crate::decimal::read_decimal;
 use crate::fault::Why;
+use ck_history::Key;
+use itoa::Buffer;
+use std::alloc::AllocError;
 
 /// A key that scripts and reports spell as one word.
 pub trait KeyWord: Copy {
