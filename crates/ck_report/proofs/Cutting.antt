@@ -1,13 +1,12 @@
 -- A text cut into lines, and a line into words.
-use Rattle.std.proofs.Common.{◌≡◌, ◌≢◌, ℕ, suc, ◌+◌, ◌<◌, Bool, true, false, ◌&&◌, not, List, [], ◌∷◌, ◌++◌, length, eqb, refl, ap, arith, sym, ◌∙◌, subst, append_assoc}
-use Rattle.std.specs.List.{slice_split, onto_first, AllByRecursion, join_with_byte}
-use Rattle.std.proofs.lemmas.Bool.{eqb-true, ne_eqb}
+use Rattle.std.proofs.Common.{◌≡◌, ◌≢◌, ℕ, ◌<◌, List, [], ◌∷◌, ◌++◌, length, refl, ap, arith, sym, ◌∙◌, append_assoc}
+use Rattle.std.specs.List.{onto_first, AllByRecursion, join_with_byte}
+use Rattle.std.proofs.lemmas.Bool.{ne_eqb}
 use Rattle.std.proofs.lemmas.Bool.Decides.{nat_tests}
 use Rattle.std.proofs.lemmas.List.Splits.{slice_split-cons_yes, slice_split-cons_no, join_with_byte-slice_split}
 use Rattle.ck_script.specs.Text.{parts, words, IsWord}
 use Rattle.ck_script.proofs.Cutting.{parts_some}
-use Rattle.ck_report.specs.Text.{line}
-use Rattle.ck_report.specs.Reports.{unended, ended, text_lines}
+use Rattle.ck_report.specs.Reports.{ended, text_lines}
 
 -- no byte is equal to c
 abbrev pub Lacks : ℕ → List ℕ → Type 0

@@ -1,10 +1,7 @@
 -- What was read of a text, and the first fault of a text that is no report.
-use Rattle.std.proofs.Common.{◌≡◌, ℕ, ◌+◌, ◌<◌, ◌≤◌, ◌^◌, List, [], ◌∷◌, ◌++◌, length, map, refl, ap, arith, sym, ◌∙◌, subst, append_assoc, append-nil, lit<}
+use Rattle.std.proofs.Common.{◌≡◌, ℕ, ◌+◌, ◌<◌, ◌^◌, List, [], ◌∷◌, ◌++◌, length, map, refl, ap, arith, sym, ◌∙◌, subst, append_assoc, append-nil}
 use Rattle.std.specs.declared.cmp.Ordering.{Ordering}
 use Rattle.std.specs.declared.cmp.Ordering.TheVariants.{Less}
-use Rattle.std.specs.List.{AllByRecursion}
-use Rattle.std.specs.List.Sorted.{IsStrictlySortedBy}
-use Rattle.std.specs.Map.{keys_of}
 use Rattle.std.proofs.lemmas.List.{length_push}
 use Rattle.ck_script.specs.Text.{IsWord}
 use Rattle.ck_report.specs.declared.line.ReportLine.{ReportLine}
@@ -15,7 +12,7 @@ use Rattle.ck_report.specs.Text.{report_text}
 use Rattle.ck_report.specs.Reports.{Parts, text_lines, spread, IsReport, Reads, CanBegin, FailsAfter, IsFirstFault}
 use Rattle.ck_report.specs.Lines.{place_of, CanFollow, Adds, NoneBegins}
 use Rattle.ck_report.proofs.Cutting.{some_lines}
-use Rattle.ck_report.proofs.Runs.{chunk, text_of, last_place, Runs, After, after, near_last, first_of, lines_of_runs, nothing_left}
+use Rattle.ck_report.proofs.Runs.{chunk, text_of, last_place, Runs, after, near_last, first_of, lines_of_runs, nothing_left}
 use Rattle.ck_report.proofs.Listing.{text-append, last-append, lists}
 use Rattle.ck_report.proofs.Gathering.{Holds, front_text, end_text, printed, lawful, sorted_none}
 use Rattle.ck_report.proofs.Stepping.{step}

@@ -1,5 +1,5 @@
 -- The parts that lines gather, and their text.
-use Rattle.std.proofs.Common.{◌≡◌, ◌≢◌, ℕ, zero, suc, ◌+◌, ◌-◌, ◌<◌, ◌≤◌, ◌⊎◌, inl, inr, List, [], ◌∷◌, ◌++◌, length, map, refl, ap, arith, sym, ◌∙◌, subst, append_assoc, append-nil, decimal, codes}
+use Rattle.std.proofs.Common.{◌≡◌, ℕ, zero, suc, ◌+◌, ◌-◌, ◌<◌, ◌≤◌, List, [], ◌∷◌, ◌++◌, length, refl, ap, arith, sym, ◌∙◌, append_assoc, append-nil}
 use Rattle.std.specs.declared.cmp.Ordering.{Ordering}
 use Rattle.std.specs.declared.cmp.Ordering.TheVariants.{Less}
 use Rattle.std.specs.List.{AllByRecursion, repeat}
@@ -7,13 +7,11 @@ use Rattle.std.specs.List.Sorted.{IsStrictlySortedBy}
 use Rattle.std.specs.Map.{keys_of}
 use Rattle.ck_history.specs.declared.update.Reply.{Reply}
 use Rattle.ck_report.specs.declared.asked.Asked.{Asked}
-use Rattle.ck_report.specs.declared.line.ReportLine.{ReportLine}
 use Rattle.ck_report.specs.declared.line.ReportLine.TheVariants.{Update, Answer, Pair, End}
 use Rattle.ck_report.specs.declared.place.Place.{Place}
 use Rattle.ck_report.specs.declared.place.Place.TheVariants.{AfterUpdate, AfterAnswer, AfterPair, AfterEnd}
-use Rattle.ck_report.specs.Text.{line, reply_words, found_words, reply_lines, answer_lines, file_lines, pair_lines, report_text}
-use Rattle.ck_report.specs.Reports.{IsReply, IsAnswer, IsPair, AreLawful, spread, AreNamed, Parts}
-use Rattle.ck_report.specs.Lines.{place_of, IsTaken, Next, CanFollow, Adds, AddsAnswer}
+use Rattle.ck_report.specs.Text.{reply_lines, answer_lines, file_lines, pair_lines, report_text}
+use Rattle.ck_report.specs.Reports.{IsReply, IsAnswer, IsPair, AreLawful, spread, AreNamed}
 use Rattle.ck_report.proofs.Cutting.{All-append}
 use Rattle.ck_report.proofs.Runs.{chunk}
 

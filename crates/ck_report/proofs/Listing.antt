@@ -11,9 +11,9 @@ use Rattle.ck_report.specs.declared.line.ReportLine.{ReportLine}
 use Rattle.ck_report.specs.declared.line.ReportLine.TheVariants.{Update, Answer, Pair, End}
 use Rattle.ck_report.specs.declared.place.Place.{Place}
 use Rattle.ck_report.specs.declared.place.Place.TheVariants.{AfterUpdate, AfterAnswer, AfterPair, AfterEnd}
-use Rattle.ck_report.specs.Text.{line, reply_lines, answer_lines, file_lines, pair_lines, report_text}
-use Rattle.ck_report.specs.Reports.{IsReply, IsAnswer, IsPair, AreLawful, IsReport}
-use Rattle.ck_report.specs.Lines.{place_of, IsTaken, Next}
+use Rattle.ck_report.specs.Text.{reply_lines, answer_lines, file_lines, pair_lines, report_text}
+use Rattle.ck_report.specs.Reports.{IsReply, IsAnswer, IsPair, IsReport}
+use Rattle.ck_report.specs.Lines.{place_of, Next}
 use Rattle.ck_report.proofs.Runs.{chunk, text_of, last_place, Runs}
 
 module _ {K : Type 0} where

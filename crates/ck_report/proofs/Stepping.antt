@@ -1,5 +1,5 @@
 -- A line that may follow carries the parts to its place.
-use Rattle.std.proofs.Common.{◌≡◌, ◌≢◌, ℕ, ◌+◌, ◌<◌, ◌≤◌, ◌⊎◌, inl, inr, List, [], ◌∷◌, ◌++◌, length, refl, ap, arith, sym, ◌∙◌, subst, append_assoc, append-nil}
+use Rattle.std.proofs.Common.{◌≡◌, ℕ, ◌+◌, ◌<◌, ◌≤◌, inl, inr, List, [], ◌∷◌, ◌++◌, length, refl, ap, arith, sym, ◌∙◌, subst, append_assoc, append-nil}
 use Rattle.std.specs.declared.cmp.Ordering.{Ordering}
 use Rattle.std.specs.declared.cmp.Ordering.TheVariants.{Less}
 use Rattle.std.specs.List.{AllByRecursion}
@@ -12,12 +12,12 @@ use Rattle.ck_report.specs.declared.line.ReportLine.{ReportLine}
 use Rattle.ck_report.specs.declared.line.ReportLine.TheVariants.{Update, Answer, Pair, End}
 use Rattle.ck_report.specs.declared.place.Place.{Place}
 use Rattle.ck_report.specs.declared.place.Place.TheVariants.{AfterUpdate, AfterAnswer, AfterPair, AfterEnd}
-use Rattle.ck_report.specs.Text.{reply_lines, pair_lines}
+use Rattle.ck_report.specs.Text.{reply_lines}
 use Rattle.ck_report.specs.Reports.{IsReply, IsAnswer, IsPair, AreNamed, Parts}
-use Rattle.ck_report.specs.Lines.{place_of, Next, CanFollow, Adds, AddsAnswer}
+use Rattle.ck_report.specs.Lines.{place_of, CanFollow, Adds}
 use Rattle.ck_report.proofs.Cutting.{All-append}
 use Rattle.ck_report.proofs.Runs.{chunk}
-use Rattle.ck_report.proofs.Gathering.{FileFits, Holds, LastFile, LastPair, front_text, end_text, named_lines, replies_push, pairs_push, named_lines_new, named_lines_same, named_push, named_same, named_last, some_push, all_front, all_last, sorted_push, sorted_one, keys_push}
+use Rattle.ck_report.proofs.Gathering.{FileFits, Holds, LastPair, front_text, end_text, named_lines, replies_push, pairs_push, named_lines_new, named_lines_same, named_push, named_same, named_last, some_push, all_front, all_last, sorted_push, sorted_one, keys_push}
 
 module _ {K : Type 0} (IsKey : K → Type 0) (spelling : K → List ℕ) (cmp : K → K → Ordering) (trans : (x y z : K) → cmp x y ≡ Less → cmp y z ≡ Less → cmp x z ≡ Less) where
   -- what a line that was added gives

@@ -1,4 +1,4 @@
-use Rattle.std.proofs.Common.{◌≡◌, ◌+◌, ◌≤◌, length}
+use Rattle.std.proofs.Common.{◌+◌, ◌≤◌, length}
 use Rattle.ck_report.specs.Reports.{parts_of}
 use Rattle.ck_report.proofs.Faults.{Read}
 use Rattle.ck_report.proofs.read.read_map_report.Given as goal
