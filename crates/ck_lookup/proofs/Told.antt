@@ -64,11 +64,11 @@ module _ (held : List ℕ → Option (List ℕ)) (names : List (List ℕ)) where
     named = slice_get_within names n name named;
     earlier = first_within n files read within;
     past = λ ts count tells ts_within.
-      let first : map held (take (suc n) names) ≡ map Some ts = subst (λ k. map held (take k names) ≡ map Some ts) (count ∙ add-one n) tells in
-      let taken : take (suc n) names ≡ take n names ++ name ∷ [] = take-suc names n name (slice_get_within names n name named) ∙ ap (λ x. take n names ++ x ∷ []) (get_or_from_slice_get names n name name named) in
-      let more = past_told held (take n names) name files ts read (subst (λ ns. map held ns ≡ map Some ts) taken first) in
-      let none : AreWithin (files ++ more.0 ∷ []) → ⊥ = subst (λ o. IfSome o (λ bytes. AreWithin (files ++ bytes ∷ []) → ⊥)) more.2 past in
-      none (subst AreWithin more.1 ts_within);
+        let first : map held (take (suc n) names) ≡ map Some ts = subst (λ k. map held (take k names) ≡ map Some ts) (count ∙ add-one n) tells in
+        let taken : take (suc n) names ≡ take n names ++ name ∷ [] = take-suc names n name (slice_get_within names n name named) ∙ ap (λ x. take n names ++ x ∷ []) (get_or_from_slice_get names n name name named) in
+        let more = past_told held (take n names) name files ts read (subst (λ ns. map held ns ≡ map Some ts) taken first) in
+        let none : AreWithin (files ++ more.0 ∷ []) → ⊥ = subst (λ o. IfSome o (λ bytes. AreWithin (files ++ bytes ∷ []) → ⊥)) more.2 past in
+        none (subst AreWithin more.1 ts_within);
   }
 
   -- the next file was refused

@@ -47,7 +47,7 @@ pub record IsBeyondLine (update_file : List ℕ) (query_files : List (List ℕ))
 -- the first fault of a run's files
 abbrev pub IsBadScript : List ℕ → List (List ℕ) → ℕ → ScriptFault → Type 0
 IsBadScript update_file query_files file fault =
-  IsBadLine (update_file ∷ query_files) file fault ⊎ IsBeyondLine update_file query_files file fault
+    IsBadLine (update_file ∷ query_files) file fault ⊎ IsBeyondLine update_file query_files file fault
 
 -- what the shelf holds, where it tells it, and the names of a run's files, the update file first
 module _ (held : List ℕ → Option (List ℕ)) (names : List (List ℕ)) where
@@ -83,8 +83,8 @@ module _ (held : List ℕ → Option (List ℕ)) (names : List (List ℕ)) where
   -- the files are within the limits, and one of them has this fault
   abbrev pub HasBadScript : ℕ → ScriptFault → Type 0
   HasBadScript file fault =
-    AreAllWithin
-    × ((update_file : List ℕ) (query_files : List (List ℕ)) → Tells update_file query_files → IsBadScript update_file query_files file fault)
+      AreAllWithin
+      × ((update_file : List ℕ) (query_files : List (List ℕ)) → Tells update_file query_files → IsBadScript update_file query_files file fault)
 
 -- the outside of a run: what the shelf holds, the counts of faults, and what the sink took, before and after the run
 pub record Outside : Type 0 where
@@ -104,7 +104,7 @@ module _ (o : Outside) (names : List (List ℕ)) where
   -- what the sink took is the front of a report, maybe none or all of it
   abbrev pub PutFront : Type 0
   PutFront = (update_file : List ℕ) (query_files : List (List ℕ)) → Tells o.held names update_file query_files
-    → (text : List ℕ) × IsReport update_file query_files text × AppendsPrefix o.taken_before o.taken_after text
+      → (text : List ℕ) × IsReport update_file query_files text × AppendsPrefix o.taken_before o.taken_after text
 
   -- how a run of these files may end, with the cause of each outcome
   abbrev pub Ends : Outcome → Type 0

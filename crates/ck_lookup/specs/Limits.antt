@@ -6,12 +6,14 @@ use Rattle.ck_script.specs.Text.{lines}
 -- bytes and lines of one file
 abbrev pub most_bytes : ℕ
 most_bytes = 33554432
+
 abbrev pub most_lines : ℕ
 most_lines = 1000000
 
 -- bytes and lines of all files
 abbrev pub all_bytes : ℕ
 all_bytes = 268435456
+
 abbrev pub all_lines : ℕ
 all_lines = 4000000
 

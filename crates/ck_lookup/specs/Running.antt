@@ -27,8 +27,8 @@ answers_of_files m files = map (λ asks. answers_of m (queries 0 asks)) files
 -- the report where all updates come before all queries
 abbrev pub text_of : List (UpLine (Update ℕ)) → List (List (AskLine ℕ)) → List ℕ
 text_of ups files =
-  let last = after_from nat_cmp capacity [] (updates ups) in
-  report_text decimal (replies nat_cmp capacity (updates ups)) (answers_of_files last files) last
+    let last = after_from nat_cmp capacity [] (updates ups) in
+    report_text decimal (replies nat_cmp capacity (updates ups)) (answers_of_files last files) last
 
 -- the outcome of a script that wasn't read
 abbrev pub refusal_of : ℕ → ScriptError → Outcome

@@ -4,12 +4,10 @@ ghost use Rattle.ck_lookup.specs.Limits.{AreWithin};
 ghost use Rattle.ck_lookup.specs.Fetching.{AreRead, IsNext, IsRefusedNext};
 ghost use Rattle.ck_lookup.specs.Running.{IsRefusedRun};
 
-use std::alloc::Global;
-
-use ck_io::{Shelf, ShelfError};
-
 use crate::files::{Files, MOST_BYTES, NotAdded};
 use crate::outcome::Outcome;
+use ck_io::{Shelf, ShelfError};
+use std::alloc::Global;
 
 /// The files of a run, the update file first, or the outcome of the first that can't be had.
 pub fn fetch_all<S: Shelf>(

@@ -2,10 +2,9 @@ ghost use Rattle.std.specs.Prelude.{◌≡◌, ◌+◌, ◌≤◌, ◌<◌, ◌�
 ghost use Rattle.ck_lookup.specs.Limits.{AreWithin, line_count};
 ghost use Rattle.ck_lookup.specs.Fetching.{IsNotAdded};
 
+use ck_script::first_line;
 use std::alloc::{AllocFailed, Global};
 use std::marker::Model;
-
-use ck_script::first_line;
 
 /// How many bytes a file may have.
 pub const MOST_BYTES: u64 = 33554432;
@@ -102,7 +101,10 @@ fn is_within(bytes: u64, lines: u64, bytes_before: u64, lines_before: u64) -> bo
     requires lines { lines_before ≤ 4000000 }
     ensures { IsTrue result ↔ ((bytes ≤ 33554432) × (lines ≤ 1000000) × (bytes_before + bytes ≤ 268435456) × (lines_before + lines ≤ 4000000)) }
 {
-    bytes <= MOST_BYTES && lines <= MOST_LINES && bytes_before + bytes <= ALL_BYTES && lines_before + lines <= ALL_LINES
+    bytes <= MOST_BYTES
+        && lines <= MOST_LINES
+        && bytes_before + bytes <= ALL_BYTES
+        && lines_before + lines <= ALL_LINES
 }
 
 // How many lines a file has.

@@ -8,10 +8,9 @@ mod outcome;
 mod report;
 mod scripts;
 mod table;
-mod words;
-
 #[cfg(test)]
 mod tests;
+mod words;
 
 pub use lookup::run;
 pub use outcome::{Outcome, line_of};

@@ -6,15 +6,13 @@ ghost use Rattle.ck_lookup.specs.Words.{Command, names, command_of};
 ghost use Rattle.ck_lookup.specs.Headline.{IsReport};
 ghost use Rattle.ck_lookup.specs.Causes.{Tells, Ends, IsClear, IsDoneOrNoMemory};
 
-use std::alloc::Global;
-use std::sync::Wait;
-use std::thread::Threads;
-
-use ck_io::{Gate, Shelf, Sink, put_all};
-
 use crate::outcome::Outcome;
 use crate::report::report_of;
 use crate::words::read_words;
+use ck_io::{Gate, Shelf, Sink, put_all};
+use std::alloc::Global;
+use std::sync::Wait;
+use std::thread::Threads;
 
 /// Does all that `lookup` does: reads the words, fetches the files that they name, checks them, makes the updates,
 /// answers the queries, and puts the report to the sink. The words are those after the program's name. Until the run
@@ -43,26 +41,26 @@ pub fn run<R: Threads + Wait + Sync, S: Shelf, K: Sink, G: Gate + Sync>(
     // Every other outcome has its cause.
     ensures ends { (c : Command) → command_of (map string_bytes words.now) ≡ Some c
         → Ends (record {
-            held = S.held shelf.old;
-            shelf_before = S.faults shelf.old;
-            shelf_after = S.faults shelf.new;
-            taken_before = K.taken sink.old;
-            taken_after = K.taken sink.new;
-            sink_before = K.faults sink.old;
-            sink_after = K.faults sink.new
+          held = S.held shelf.old;
+          shelf_before = S.faults shelf.old;
+          shelf_after = S.faults shelf.new;
+          taken_before = K.taken sink.old;
+          taken_after = K.taken sink.new;
+          sink_before = K.faults sink.old;
+          sink_after = K.faults sink.new;
         }) (names c) result }
 
     // Lawful files, and no fault of shelf or sink, give the whole report, unless memory is wanting.
     ensures complete { (c : Command) (update_file : List ℕ) (query_files : List (List ℕ))
         → command_of (map string_bytes words.now) ≡ Some c
         → IsClear (record {
-            held = S.held shelf.old;
-            shelf_before = S.faults shelf.old;
-            shelf_after = S.faults shelf.new;
-            taken_before = K.taken sink.old;
-            taken_after = K.taken sink.new;
-            sink_before = K.faults sink.old;
-            sink_after = K.faults sink.new
+          held = S.held shelf.old;
+          shelf_before = S.faults shelf.old;
+          shelf_after = S.faults shelf.new;
+          taken_before = K.taken sink.old;
+          taken_after = K.taken sink.new;
+          sink_before = K.faults sink.old;
+          sink_after = K.faults sink.new;
         }) (names c) update_file query_files
         → IsDoneOrNoMemory result }
 
@@ -92,14 +90,14 @@ fn run_table<S: Shelf, K: Sink, G: Gate>(
         → result ≡ Done
         → (text : List ℕ) × IsReport update_file query_files text × (K.taken sink.new ≡ appended (K.taken sink.old) text) }
     ensures ends { Ends (record {
-            held = S.held shelf.old;
-            shelf_before = S.faults shelf.old;
-            shelf_after = S.faults shelf.new;
-            taken_before = K.taken sink.old;
-            taken_after = K.taken sink.new;
-            sink_before = K.faults sink.old;
-            sink_after = K.faults sink.new
-        }) (updates.now ∷ map (λ name. name.now) queries.now) result }
+      held = S.held shelf.old;
+      shelf_before = S.faults shelf.old;
+      shelf_after = S.faults shelf.new;
+      taken_before = K.taken sink.old;
+      taken_after = K.taken sink.new;
+      sink_before = K.faults sink.old;
+      sink_after = K.faults sink.new;
+    }) (updates.now ∷ map (λ name. name.now) queries.now) result }
     ensures held { S.held shelf.new ≡ S.held shelf.old }
     ensures shelf_lasting { NeverFall (S.faults shelf.old) (S.faults shelf.new) }
     ensures sink_lasting { K.faults sink.old ≤ K.faults sink.new }

@@ -1,9 +1,8 @@
 ghost use Rattle.std.specs.Prelude.{◌≡◌, IfOk, string_bytes};
 ghost use Rattle.ck_lookup.specs.Outcomes.{text_of, why_text};
 
-use std::alloc::{AllocError, AllocFailed, Global};
-
 use ck_script::Why;
+use std::alloc::{AllocError, AllocFailed, Global};
 
 /// How a run ended. File 0 is the update file, file f the query file with the number f.
 #[derive(Clone, Copy, PartialEq, Eq, Debug)]

@@ -5,15 +5,13 @@ ghost use Rattle.ck_lookup.specs.Headline.{IsReport};
 ghost use Rattle.ck_lookup.specs.Causes.{Tells, AreAllWithin};
 ghost use Rattle.ck_lookup.specs.Running.{IsRefusedScript, IsRefusedRun, text_of};
 
-use std::alloc::{AllocError, Global};
-
-use ck_io::{Gate, Shelf};
-use ck_report::report_map;
-
 use crate::fetch::fetch_all;
 use crate::outcome::Outcome;
 use crate::scripts::{Scripts, read_scripts};
 use crate::table::{answer_files, make_updates};
+use ck_io::{Gate, Shelf};
+use ck_report::report_map;
+use std::alloc::{AllocError, Global};
 
 /// The report of the files under these names, or the outcome of a run that gets none.
 pub fn report_of<S: Shelf, G: Gate>(
@@ -53,7 +51,11 @@ fn text_of_files<G: Gate>(alloc: Global, files: &[Vec<u8>], gate: &G) -> Result<
 }
 
 // The report of what files say.
-fn text_of_scripts<G: Gate>(alloc: Global, scripts: &Scripts, gate: &G) -> Result<Vec<u8>, AllocError>
+fn text_of_scripts<G: Gate>(
+    alloc: Global,
+    scripts: &Scripts,
+    gate: &G,
+) -> Result<Vec<u8>, AllocError>
     ensures { IfOk result (λ text. text.items ≡ text_of (said_of scripts.now.ups.items) (map said_of (map (λ file. file.items) scripts.now.asks.items))) }
 {
     let (book, replies) = make_updates(alloc, &scripts.ups, gate)?;

@@ -6,12 +6,12 @@ ghost use Rattle.ck_script.specs.Checks.{range_fault};
 ghost use Rattle.ck_lookup.specs.Causes.{IsFaultOf};
 ghost use Rattle.ck_lookup.specs.Running.{IsRefusedUpdates, IsRefusedQueries, IsRefusedQueryFile, IsRefusedScript, refusal_of};
 
-use std::alloc::Global;
-
-use ck_history::{Key, Update};
-use ck_script::{AskLine, Numbered, ScriptError, UpLine, Why, check_ranges, read_queries, read_updates};
-
 use crate::outcome::Outcome;
+use ck_history::{Key, Update};
+use ck_script::{
+    AskLine, Numbered, ScriptError, UpLine, Why, check_ranges, read_queries, read_updates,
+};
+use std::alloc::Global;
 
 /// What the files of a run say.
 #[derive(Debug, Drop)]
@@ -23,7 +23,11 @@ pub struct Scripts {
 }
 
 /// What the files say, or the outcome of the first line that is outside the grammar or beyond what there is.
-pub fn read_scripts(alloc: Global, update_file: &[u8], query_files: &[Vec<u8>]) -> Result<Scripts, Outcome>
+pub fn read_scripts(
+    alloc: Global,
+    update_file: &[u8],
+    query_files: &[Vec<u8>],
+) -> Result<Scripts, Outcome>
     ensures updates { IfOk result (λ scripts. FileSays (IsUpdateLine IsKey) (update_words decimal) update_file.now scripts.ups.items) }
     ensures queries { IfOk result (λ scripts. QueriesSay IsKey decimal (map (λ file. file.items) query_files.now) (map (λ file. file.items) scripts.asks.items)) }
     ensures in_range { IfOk result (λ scripts. range_fault scripts.ups.items (map (λ file. file.items) scripts.asks.items) ≡ None) }
@@ -68,7 +72,11 @@ fn queries_in(alloc: Global, files: &[Vec<u8>]) -> Result<Vec<Vec<Numbered<AskLi
 }
 
 // The lines of the query file with this number.
-fn queries_of(alloc: Global, number: u64, bytes: &[u8]) -> Result<Vec<Numbered<AskLine<Key>>>, Outcome>
+fn queries_of(
+    alloc: Global,
+    number: u64,
+    bytes: &[u8],
+) -> Result<Vec<Numbered<AskLine<Key>>>, Outcome>
     ensures read { IfOk result (λ asks. FileSays (IsQueryLine IsKey) (query_words decimal) bytes.now asks.items) }
     ensures refused { IfErr result (IsRefusedQueryFile number bytes.now) }
 {

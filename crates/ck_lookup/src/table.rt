@@ -5,12 +5,11 @@ ghost use Rattle.ck_script.specs.Script.{said_of, updates, queries};
 ghost use Rattle.ck_lookup.specs.Headline.{capacity};
 ghost use Rattle.ck_lookup.specs.Running.{answers_of, answers_of_files};
 
-use std::alloc::{AllocError, Global};
-
 use ck_history::{Book, Key, Reply, Update};
 use ck_io::Gate;
 use ck_report::Asked;
 use ck_script::{AskLine, Numbered, UpLine};
+use std::alloc::{AllocError, Global};
 
 /// How many pairs a table may have.
 const CAPACITY: u64 = 65536;
@@ -34,7 +33,11 @@ pub fn make_updates<G: Gate>(
 }
 
 // Makes one update, if the line is one.
-fn make_update(book: &mut Book<Key>, replies: &mut Vec<Reply>, what: &UpLine<Update<Key>>) -> Result<(), AllocError>
+fn make_update(
+    book: &mut Book<Key>,
+    replies: &mut Vec<Reply>,
+    what: &UpLine<Update<Key>>,
+) -> Result<(), AllocError>
     ensures table { OnOk result (book.new ≡ record book.old { pairs = after_from nat_cmp book.old.most book.old.pairs (updates (what.now ∷ [])) }) }
     ensures replies { OnOk result (replies.new.items ≡ replies.old.items ++ replies_from nat_cmp book.old.most book.old.pairs (updates (what.now ∷ []))) }
 {
@@ -86,7 +89,11 @@ fn answer_queries<G: Gate>(
 }
 
 // Answers one query, if the line is one.
-fn answer_query(book: &Book<Key>, answers: &mut Vec<Asked<Key>>, what: &AskLine<Key>) -> Result<(), AllocError>
+fn answer_query(
+    book: &Book<Key>,
+    answers: &mut Vec<Asked<Key>>,
+    what: &AskLine<Key>,
+) -> Result<(), AllocError>
     ensures { OnOk result (answers.new.items ≡ answers.old.items ++ answers_of book.now.pairs (queries 0 (what.now ∷ []))) }
 {
     match *what {
