@@ -19,19 +19,19 @@ use Rattle.ck_script.proofs.Checking.{drop_next}
 
 -- the first place that passes a test
 
-position_past : {X : Type 0} (p : X → Bool) (x : X) (xs : List X) → p x ≡ false → position_or_len p (x ∷ xs) ≡ 1 + position_or_len p xs
+pub position_past : {X : Type 0} (p : X → Bool) (x : X) (xs : List X) → p x ≡ false → position_or_len p (x ∷ xs) ≡ 1 + position_or_len p xs
 position_past p x xs fails = cond-true (not (p x)) _ _ (ap not fails)
 
-position_here : {X : Type 0} (p : X → Bool) (x : X) (xs : List X) → p x ≡ true → position_or_len p (x ∷ xs) ≡ 0
+pub position_here : {X : Type 0} (p : X → Bool) (x : X) (xs : List X) → p x ≡ true → position_or_len p (x ∷ xs) ≡ 0
 position_here p x xs passes = cond-false (not (p x)) _ _ (ap not passes)
 
-position_same : {X : Type 0} (p q : X → Bool) → ((x : X) → p x ≡ q x) → (xs : List X) → position_or_len p xs ≡ position_or_len q xs
+pub position_same : {X : Type 0} (p q : X → Bool) → ((x : X) → p x ≡ q x) → (xs : List X) → position_or_len p xs ≡ position_or_len q xs
 position_same p q same [] = refl
 position_same p q same (x ∷ xs) =
     ap (λ b. cond (not b) (1 + position_or_len p xs) 0) (same x) ∙ ap (λ k. cond (not (q x)) (1 + k) 0) (position_same p q same xs)
 
 -- the first that passes one of two tests: the first of the other before the first of the one
-position_either : {X : Type 0} (p q r : X → Bool) → ((x : X) → r x ≡ (p x || q x)) → (xs : List X) → position_or_len q (take (position_or_len p xs) xs) ≡ position_or_len r xs
+pub position_either : {X : Type 0} (p q r : X → Bool) → ((x : X) → r x ≡ (p x || q x)) → (xs : List X) → position_or_len q (take (position_or_len p xs) xs) ≡ position_or_len r xs
 position_either p q r either [] = refl
 position_either {X} p q r either (x ∷ xs) = by_test (p x) refl (position_either p q r either xs)
   where
@@ -64,6 +64,10 @@ placed_at m [] i line is = absurd (cc)
 placed_at m (l ∷ more) zero line is = ap (option_map (λ x. record { file = 0; line = x.line })) is
 placed_at m (l ∷ more) (suc i) line is = placed_at (m + length (updates (l.what ∷ []))) more i line is
 
+-- an element that passes no test
+pub position_next : {X : Type 0} (p : X → Bool) (xs : List X) (i : ℕ) (x : X) → i < length xs → x ≡ get_or xs i x → p x ≡ false → position_or_len p (drop i xs) ≡ 1 + position_or_len p (drop (i + 1) xs)
+position_next p xs i x lt is fails = ap (position_or_len p) (drop_next xs i x lt is) ∙ position_past p x (drop (i + 1) xs) fails
+
 -- a line that passes no test
 pub placed_next : {C : Type 0} (p : ℕ × Numbered (UpLine C) → Bool) (m i k : ℕ) (ups : List (Numbered (UpLine C))) (line : Numbered (UpLine C)) → i < length ups → line ≡ get_or ups i line → p (m, line) ≡ false → k ≡ length (updates (line.what ∷ [])) → position_or_len p (placed m (drop i ups)) ≡ 1 + position_or_len p (placed (m + k) (drop (i + 1) ups))
 placed_next p m i k ups line lt is fails more =
@@ -77,13 +81,13 @@ abbrev pub is_circle_within : {C A : Type 0} → ℕ → List (List (AskLine A))
 is_circle_within i files m (Call u) = false
 is_circle_within i files m (Hold file count) = nat_le file i && option_map_or (waits_for_more m count) (query_file file files) false
 
-le_false : (a b : ℕ) → b < a → nat_le a b ≡ false
+pub le_false : (a b : ℕ) → b < a → nat_le a b ≡ false
 le_false a b lt = grind (arith, nat_tests)
 
-le_true : (a b : ℕ) → a ≤ b → nat_le a b ≡ true
+pub le_true : (a b : ℕ) → a ≤ b → nat_le a b ≡ true
 le_true a b le = grind (arith, nat_tests)
 
-no_file : {A : Type 0} (files : List (List (AskLine A))) (f : ℕ) → length files < f → query_file f files ≡ None
+pub no_file : {A : Type 0} (files : List (List (AskLine A))) (f : ℕ) → length files < f → query_file f files ≡ None
 no_file files zero above = refl
 no_file files (suc i) above = slice_get_past files i (omega arith)
 
@@ -92,7 +96,7 @@ within_none files m (Call u) = refl
 within_none files m (Hold zero count) = refl
 within_none files m (Hold (suc f) count) = ap (λ t. t && option_map_or (waits_for_more m count) (query_file (suc f) files) false) (le_false (suc f) 0 (omega arith))
 
-or_false : (b : Bool) → (b || false) ≡ b
+pub or_false : (b : Bool) → (b || false) ≡ b
 or_false true = refl
 or_false false = refl
 
@@ -101,7 +105,7 @@ and_false true = refl
 and_false false = refl
 
 -- the file is one of the first i, or the next
-one_more : (file i : ℕ) (c w : Bool) → (file ≡ suc i → c ≡ w) → (nat_le file (i + 1) && c) ≡ ((nat_le file i && c) || ((file == suc i) && w))
+pub one_more : (file i : ℕ) (c w : Bool) → (file ≡ suc i → c ≡ w) → (nat_le file (i + 1) && c) ≡ ((nat_le file i && c) || ((file == suc i) && w))
 one_more file i c w same = elim (cases_eq file (suc i)) [
   | inl is ↦ let e = same is in grind (arith, nat_tests)
   | inr other ↦ grind (arith, nat_tests)
@@ -112,7 +116,7 @@ within_more files i asks here m (Call u) = refl
 within_more files i asks here m (Hold file count) =
     one_more file i (option_map_or (waits_for_more m count) (query_file file files) false) (waits_for_more m count asks) (λ same. ap (λ o. option_map_or (waits_for_more m count) o false) (ap (λ f. query_file f files) same ∙ here))
 
-within_or_above : (a b : ℕ) → (a ≤ b) ⊎ (b < a)
+pub within_or_above : (a b : ℕ) → (a ≤ b) ⊎ (b < a)
 within_or_above zero b = inl (omega arith)
 within_or_above (suc a) zero = inr (omega arith)
 within_or_above (suc a) (suc b) = elim (within_or_above a b) [ inl le ↦ inl (omega arith) | inr lt ↦ inr (omega arith) ]
@@ -163,7 +167,7 @@ circle_some ups asks i end line all is lt here =
 
 -- a file with no `hold` line
 
-either_false : (a b : Bool) → (a || b) ≡ false → (a ≡ false) × (b ≡ false)
+pub either_false : (a b : Bool) → (a || b) ≡ false → (a ≡ false) × (b ≡ false)
 either_false true b none = absurd (cc)
 either_false false b none = (refl, none)
 

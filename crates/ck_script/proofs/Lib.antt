@@ -6,3 +6,4 @@ pub mod Ranges
 pub mod Fronts
 pub mod Circles
 pub mod Meaning
+pub mod Shorts

@@ -7,3 +7,4 @@ pub mod Faultless
 pub mod Checks
 pub mod Fronts
 pub mod Unique
+pub mod Shorts

@@ -1,9 +1,11 @@
-ghost use Rattle.std.specs.Prelude.{◌≡◌, length, map};
+ghost use Rattle.std.specs.Prelude.{◌≡◌, ◌≤◌, length, map};
 ghost use Rattle.std.specs.Option.{option_map};
-ghost use Rattle.std.specs.List.{find};
+ghost use Rattle.std.specs.List.{find, position_or_len};
 ghost use Rattle.ck_script.specs.Script.{said_of, updates, queries};
 ghost use Rattle.ck_script.specs.Checks.{is_hold_beyond, is_wait_beyond, first_wait_beyond, range_fault};
+ghost use Rattle.ck_script.specs.Shorts.{names_no_file, is_short};
 
+use crate::circle::has_hold;
 use crate::line::{AskLine, Numbered, UpLine};
 
 /// A line that asks for what can't come: the number of its file, where 0 is the update file, and its own number.
@@ -27,30 +29,67 @@ pub fn check_ranges<C, A>(
     }
 }
 
-// The number of the first `hold` line that is beyond.
+// The number of the first `hold` line that is beyond. Where there is one at all, it makes a pass over the lines for each
+// query file, up to the first that is beyond so far.
 fn find_hold<C, A>(ups: &[Numbered<UpLine<C>>], asks: &[Vec<Numbered<AskLine<A>>>]) -> Option<u64>
     ensures { result ≡ option_map (λ l. l.line) (find (λ l. is_hold_beyond (map said_of (map (λ file. file.items) asks.now)) l.what) ups.now) }
 {
-    for line in ups {
-        if hold_is_beyond(&line.what, asks) {
-            return Some(line.line);
-        }
+    if !has_hold(ups) {
+        return None;
     }
-    None
+    let mut end = first_without_file(ups, asks.len() as u64);
+    for (i, file) in asks.iter().enumerate() {
+        end = first_short(&ups[..end], i as u64 + 1, count_queries(file.as_slice()));
+    }
+    if end == ups.len() {
+        return None;
+    }
+    Some(ups[end].line)
 }
 
-// Whether this is a `hold` line that is beyond.
-fn hold_is_beyond<C, A>(what: &UpLine<C>, asks: &[Vec<Numbered<AskLine<A>>>]) -> bool
-    ensures { result ≡ is_hold_beyond (map said_of (map (λ file. file.items) asks.now)) what.now }
+// The index of the first `hold` line for none of the query files, or the number of lines.
+fn first_without_file<C>(ups: &[Numbered<UpLine<C>>], files: u64) -> usize
+    ensures first { result ≡ position_or_len (λ l. names_no_file files l.what) ups.now }
+    ensures within { result ≤ length ups.now }
+{
+    for (i, line) in ups.iter().enumerate() {
+        if has_no_file(&line.what, files) {
+            return i;
+        }
+    }
+    ups.len()
+}
+
+// Whether this is a `hold` line for none of the query files.
+fn has_no_file<C>(what: &UpLine<C>, files: u64) -> bool
+    ensures { result ≡ names_no_file files what.now }
 {
     match what {
         UpLine::Call(_) => false,
-        UpLine::Hold { file, n } => {
-            if *file == 0 || *file > asks.len() as u64 {
-                return true;
-            }
-            count_queries(asks[(*file - 1) as usize].as_slice()) < *n
+        UpLine::Hold { file, .. } => *file == 0 || *file > files,
+    }
+}
+
+// The index of the first `hold` line for more than n queries of file f, or the number of lines.
+fn first_short<C>(ups: &[Numbered<UpLine<C>>], f: u64, n: u64) -> usize
+    ensures first { result ≡ position_or_len (λ l. is_short f n l.what) ups.now }
+    ensures within { result ≤ length ups.now }
+{
+    for (i, line) in ups.iter().enumerate() {
+        if asks_for_more(&line.what, f, n) {
+            return i;
         }
+    }
+    ups.len()
+}
+
+// Whether this is a `hold` line for more than n queries of file f.
+fn asks_for_more<C>(what: &UpLine<C>, f: u64, n: u64) -> bool
+    ensures { result ≡ is_short f n what.now }
+{
+    match what {
+        UpLine::Call(_) => false,
+        UpLine::Hold { file, n: count } => *file == f && *count > n,
     }
 }
 

@@ -33,8 +33,8 @@ pub fn check_circles<C, A>(
     })
 }
 
-// Whether there is a `hold` line.
-fn has_hold<C>(ups: &[Numbered<UpLine<C>>]) -> bool
+/// Whether there is a `hold` line.
+pub fn has_hold<C>(ups: &[Numbered<UpLine<C>>]) -> bool
     ensures { result ≡ list_any (λ l. is_hold l.what) ups.now }
 {
     for line in ups {

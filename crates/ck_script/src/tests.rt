@@ -19,8 +19,14 @@ fn the_first_fault_of_update_files(rt: HostRuntime) -> Result<(), Fail> {
         ("set 18446744073709551615 18446744073709551615\n", None),
         ("set 18446744073709551616 0", None),
         ("set 340282366920938463463374607431768211454 1", None),
-        ("set 340282366920938463463374607431768211455 1", Some((1, Why::Key))),
-        ("set 340282366920938463463374607431768211456 1", Some((1, Why::Number))),
+        (
+            "set 340282366920938463463374607431768211455 1",
+            Some((1, Why::Key)),
+        ),
+        (
+            "set 340282366920938463463374607431768211456 1",
+            Some((1, Why::Number)),
+        ),
         ("set 0 1", Some((1, Why::Key))),
         ("set 1 18446744073709551616", Some((1, Why::Number))),
         ("del 07", Some((1, Why::Number))),
@@ -69,7 +75,13 @@ fn each_prefix_of_an_update_file(rt: HostRuntime) -> Result<(), Fail> {
     let verbs = [1, 2, 10, 11, 20, 21];
     let numbers = [7, 17, 23];
     for length in 0..bytes.len() + 1 {
-        let line = if length < 10 { 1 } else if length < 20 { 2 } else { 3 };
+        let line = if length < 10 {
+            1
+        } else if length < 20 {
+            2
+        } else {
+            3
+        };
         let want = if lawful.contains(&length) {
             None
         } else if verbs.contains(&length) {
@@ -88,10 +100,19 @@ fn each_prefix_of_an_update_file(rt: HostRuntime) -> Result<(), Fail> {
 #[test]
 fn lines_have_their_numbers_and_keys_their_words(rt: HostRuntime) -> Result<(), Fail> {
     let key = Key::new(18446744073709551616).ok_or("key")?;
-    let said = read_updates::<Key>(rt.alloc(), b"\n# 1\nset 18446744073709551616 2\n\ntidy".as_slice())?;
+    let said = read_updates::<Key>(
+        rt.alloc(),
+        b"\n# 1\nset 18446744073709551616 2\n\ntidy".as_slice(),
+    )?;
     let want = [
-        Numbered { line: 3, what: UpLine::Call(Update::Set(key, 2)) },
-        Numbered { line: 5, what: UpLine::Call(Update::Tidy) },
+        Numbered {
+            line: 3,
+            what: UpLine::Call(Update::Set(key, 2)),
+        },
+        Numbered {
+            line: 5,
+            what: UpLine::Call(Update::Tidy),
+        },
     ];
     assert_eq!(rt; said.as_slice(), want.as_slice());
     let mut word = Vec::new(rt.alloc());
@@ -106,27 +127,92 @@ fn lines_that_ask_for_too_much(rt: HostRuntime) -> Result<(), Fail> {
     let hold = |file, n| UpLine::Hold { file, n };
     let cases = [
         // three updates and `wait 4`
-        ([set, set, set], [AskLine::Wait { n: 4 }, AskLine::Ask(1)], Some((1, 1)), None),
-        ([set, set, set], [AskLine::Ask(1), AskLine::Wait { n: 3 }], None, None),
-        ([set, hold(0, 0), set], [AskLine::Ask(1), AskLine::Ask(1)], Some((0, 2)), None),
-        ([set, hold(2, 0), set], [AskLine::Ask(1), AskLine::Ask(1)], Some((0, 2)), None),
-        ([hold(1, 2), set, hold(1, 3)], [AskLine::Ask(1), AskLine::Ask(1)], Some((0, 3)), None),
+        (
+            [set, set, set],
+            [AskLine::Wait { n: 4 }, AskLine::Ask(1)],
+            Some((1, 1)),
+            None,
+        ),
+        (
+            [set, set, set],
+            [AskLine::Ask(1), AskLine::Wait { n: 3 }],
+            None,
+            None,
+        ),
+        (
+            [set, hold(0, 0), set],
+            [AskLine::Ask(1), AskLine::Ask(1)],
+            Some((0, 2)),
+            None,
+        ),
+        (
+            [set, hold(2, 0), set],
+            [AskLine::Ask(1), AskLine::Ask(1)],
+            Some((0, 2)),
+            None,
+        ),
+        (
+            [hold(1, 2), set, hold(1, 3)],
+            [AskLine::Ask(1), AskLine::Ask(1)],
+            Some((0, 3)),
+            None,
+        ),
         // `hold 1 1; set 1 10` with `wait 1; get 1`, and a later `hold`
-        ([hold(1, 1), set, hold(1, 1)], [AskLine::Wait { n: 1 }, AskLine::Ask(1)], None, Some((0, 1))),
-        ([hold(1, 0), set, hold(1, 1)], [AskLine::Wait { n: 1 }, AskLine::Ask(1)], None, None),
-        ([hold(1, 1), set, set], [AskLine::Ask(1), AskLine::Wait { n: 1 }], None, None),
+        (
+            [hold(1, 1), set, hold(1, 1)],
+            [AskLine::Wait { n: 1 }, AskLine::Ask(1)],
+            None,
+            Some((0, 1)),
+        ),
+        (
+            [hold(1, 0), set, hold(1, 1)],
+            [AskLine::Wait { n: 1 }, AskLine::Ask(1)],
+            None,
+            None,
+        ),
+        (
+            [hold(1, 1), set, set],
+            [AskLine::Ask(1), AskLine::Wait { n: 1 }],
+            None,
+            None,
+        ),
     ];
     for (what, asked, range, circle) in cases {
         let ups = [
-            Numbered { line: 1, what: what[0] },
-            Numbered { line: 2, what: what[1] },
-            Numbered { line: 3, what: what[2] },
+            Numbered {
+                line: 1,
+                what: what[0],
+            },
+            Numbered {
+                line: 2,
+                what: what[1],
+            },
+            Numbered {
+                line: 3,
+                what: what[2],
+            },
         ];
-        let file = [Numbered { line: 1, what: asked[0] }, Numbered { line: 2, what: asked[1] }].to_vec(rt.alloc())?;
+        let file = [
+            Numbered {
+                line: 1,
+                what: asked[0],
+            },
+            Numbered {
+                line: 2,
+                what: asked[1],
+            },
+        ]
+        .to_vec(rt.alloc())?;
         let asks = [file];
-        assert_eq!(rt; check_ranges(ups.as_slice(), asks.as_slice()).map(|x| (x.file, x.line)), range);
+        assert_eq!(rt;
+            check_ranges(ups.as_slice(), asks.as_slice()).map(|x| (x.file, x.line)),
+            range
+        );
         if range.is_none() {
-            assert_eq!(rt; check_circles(ups.as_slice(), asks.as_slice()).map(|x| (x.file, x.line)), circle);
+            assert_eq!(rt;
+                check_circles(ups.as_slice(), asks.as_slice()).map(|x| (x.file, x.line)),
+                circle
+            );
         }
     }
     Ok(())
@@ -136,19 +222,43 @@ fn lines_that_ask_for_too_much(rt: HostRuntime) -> Result<(), Fail> {
 #[test]
 fn a_hold_for_a_query_after_a_wait_for_more(rt: HostRuntime) -> Result<(), Fail> {
     let ups = [
-        Numbered { line: 1, what: UpLine::Call(10) },
-        Numbered { line: 2, what: UpLine::Hold { file: 1, n: 2 } },
-        Numbered { line: 3, what: UpLine::Call(20) },
+        Numbered {
+            line: 1,
+            what: UpLine::Call(10),
+        },
+        Numbered {
+            line: 2,
+            what: UpLine::Hold { file: 1, n: 2 },
+        },
+        Numbered {
+            line: 3,
+            what: UpLine::Call(20),
+        },
     ];
     let file = [
-        Numbered { line: 1, what: AskLine::Wait { n: 1 } },
-        Numbered { line: 2, what: AskLine::Ask(1) },
-        Numbered { line: 3, what: AskLine::Wait { n: 2 } },
-        Numbered { line: 4, what: AskLine::Ask(1) },
+        Numbered {
+            line: 1,
+            what: AskLine::Wait { n: 1 },
+        },
+        Numbered {
+            line: 2,
+            what: AskLine::Ask(1),
+        },
+        Numbered {
+            line: 3,
+            what: AskLine::Wait { n: 2 },
+        },
+        Numbered {
+            line: 4,
+            what: AskLine::Ask(1),
+        },
     ]
     .to_vec(rt.alloc())?;
     let asks = [file];
     assert_eq!(rt; check_ranges(ups.as_slice(), asks.as_slice()), None);
-    assert_eq!(rt; check_circles(ups.as_slice(), asks.as_slice()), Some(RangeFault { file: 0, line: 2 }));
+    assert_eq!(rt;
+        check_circles(ups.as_slice(), asks.as_slice()),
+        Some(RangeFault { file: 0, line: 2 })
+    );
     Ok(())
 }

@@ -1,11 +1,12 @@
-use Rattle.std.proofs.Common.{◌≡◌, drop, map}
-use Rattle.std.specs.List.{find}
+use Rattle.std.proofs.Common.{◌≡◌, ◌≤◌, length, map}
+use Rattle.std.specs.List.{position_or_len}
 use Rattle.ck_script.specs.Script.{said_of}
-use Rattle.ck_script.specs.Checks.{is_hold_beyond}
+use Rattle.ck_script.proofs.Shorts.{is_beyond_within}
 use Rattle.ck_script.proofs.check.find_hold.Given as goal
 
--- the first is among the lines that are left
-abbrev pub invariant-loop-line : goal.invariant-loop-line
-invariant-loop-line g l =
-    find (λ x. is_hold_beyond (map said_of (map (λ file. file.items) l.asks)) x.what) (drop l.line-index l.ups)
-    ≡ find (λ x. is_hold_beyond (map said_of (map (λ file. file.items) l.asks)) x.what) l.ups
+-- the first line that is beyond for one of the files so far
+abbrev pub invariant-loop-i : goal.invariant-loop-i
+invariant-loop-i g l = record {
+  first : l.end ≡ position_or_len (λ x. is_beyond_within l.i (map said_of (map (λ file. file.items) l.asks)) x.what) l.ups;
+  within : l.end ≤ length l.ups;
+}
