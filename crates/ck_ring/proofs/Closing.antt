@@ -1,6 +1,6 @@
 -- What is known when a ring is closed.
 use Rattle.std.proofs.Common.{◌≡◌, ℕ, zero, suc, ◌+◌, ◌-◌, ◌<◌, ◌≤◌, List, [], ◌∷◌, ◌++◌, length, get_or, sym, refl, ap, ◌∙◌, subst, lt_of_not-le, All, arith}
-use Rattle.std.proofs.lemmas.List.Elements.{All-nil, All-cons, All-head, All-tail}
+use Rattle.std.proofs.lemmas.List.Elements.{All-nil, All-cons, All-head, All-tail, All-append}
 use mathlib.Core.Option.{some, some-injective, some-ne-none}
 use mathlib.Core.Logic.{dite}
 use native.Mathlib.Decide.{dec_le}
@@ -22,8 +22,7 @@ joined_snoc v [] c = refl
 joined_snoc v (x ∷ cs) c = joined_snoc (joined v x.view) cs c
 
 pub All-snoc : (P : Token → Type 0) (cs : List Token) (c : Token) → All P cs → P c → All P (cs ++ c ∷ [])
-All-snoc P [] c h p = All-cons P c [] p h
-All-snoc P (x ∷ cs) c h p = All-cons P x (cs ++ c ∷ []) (All-head P x cs h) (All-snoc P cs c (All-tail P x cs h) p)
+All-snoc P cs c h p = All-append P cs (c ∷ []) h (All-cons P c [] p (All-nil P))
 
 All-map : (P Q : Token → Type 0) (cs : List Token) → ((c : Token) → P c → Q c) → All P cs → All Q cs
 All-map P Q [] f h = All-nil Q

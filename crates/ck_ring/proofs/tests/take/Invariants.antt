@@ -1,4 +1,4 @@
-use Rattle.std.proofs.Common.{◌≡◌, ◌+◌, length}
+use Rattle.std.proofs.Common.{◌≡◌, ◌+◌}
 use Rattle.ck_run.specs.Tokens.{table, number}
 use Rattle.ck_ring.specs.State.{state}
 use Rattle.ck_ring.proofs.tests.take.Given as goal
