@@ -1,7 +1,6 @@
 //! Real files as a shelf.
-ghost use Rattle.std.specs.Prelude.{◌≡◌, ◌≢◌, ℕ, ◌≤◌, ◌<◌, ◌↔◌, List, length, None, Err, IfOk, IfErr, IfSome, vec_len};
-ghost use Rattle.ck_io.specs.Faults.{NeverFall};
-ghost use Rattle.ck_io.specs.Shelf.{HasCause, IsSettled, IsTooLong};
+ghost use Rattle.std.specs.Prelude.{◌≡◌, ◌≤◌, None, IfOk, IfErr, IfSome, vec_len};
+ghost use Rattle.ck_io.specs.Shelf.{HasCause};
 
 use crate::{Shelf, ShelfError};
 use std::alloc::Global;

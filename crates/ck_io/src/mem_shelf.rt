@@ -1,6 +1,5 @@
 //! A shelf in memory, which fails where it is told to.
-ghost use Rattle.std.specs.Prelude.{◌≡◌, ℕ, ◌≤◌, ◌<◌, ◌↔◌, ◌++◌, [], ◌∷◌, List, length, replicate, OnOk, OnErr, IfOk, IfErr, IfSome, vec_len, string_bytes, bytes_eq, position, slice_index, Err, ◌^◌};
-ghost use Rattle.ck_io.specs.declared.shelf.ShelfError.TheVariants.{Memory};
+ghost use Rattle.std.specs.Prelude.{◌≡◌, ℕ, ◌≤◌, ◌<◌, ◌↔◌, ◌++◌, [], ◌∷◌, List, length, replicate, OnOk, OnErr, IfOk, IfErr, IfSome, vec_len, string_bytes, bytes_eq, position, slice_index, ◌^◌};
 ghost use Rattle.ck_io.specs.Faults.{NeverFall};
 ghost use Rattle.ck_io.specs.Shelf.{HasCause, IsSettled, IsTooLong};
 ghost use Rattle.ck_io.specs.MemShelf.{Gives, bytes_under, faults_of, fetch_fails, FailsExactlyWhere, shelf_after, contents, padded, place, raised};

@@ -1,7 +1,5 @@
 //! A sink in memory, which fails where it is told to.
-ghost use Rattle.std.specs.Prelude.{◌≡◌, ◌≤◌, ◌<◌, List, [], length, take, OnOk, OnErr, IfOk, IsErr, IsFalse, IsTrue, vec_len, ◌↔◌};
-ghost use Rattle.ck_io.specs.Faults.{Rose};
-ghost use Rattle.ck_io.specs.Sink.{appended};
+ghost use Rattle.std.specs.Prelude.{◌≡◌, ◌≤◌, ◌<◌, [], length, IfOk, IsErr, IsTrue, ◌↔◌};
 ghost use Rattle.ck_io.specs.MemSink.{put_fails, taken_of, sink_after};
 
 use crate::{Sink, SinkFailed};

@@ -1,7 +1,7 @@
 //! Where files come from.
 ghost use Rattle.std.specs.Prelude.{◌≡◌, ℕ, ◌≤◌, ◌<◌, ◌↔◌, List, length, Option, IfOk, IfErr, IfSome, vec_len};
 ghost use Rattle.ck_io.specs.declared.shelf.ShelfError.TheVariants.{Memory};
-ghost use Rattle.ck_io.specs.Faults.{Rose, NeverFall};
+ghost use Rattle.ck_io.specs.Faults.{NeverFall};
 ghost use Rattle.ck_io.specs.Shelf.{HasCause, IsSettled, IsTooLong};
 
 use std::alloc::{AllocError, Global};

@@ -1,5 +1,5 @@
 //! Where a text goes.
-ghost use Rattle.std.specs.Prelude.{◌≡◌, ℕ, ◌≤◌, ◌<◌, List, length, take, Option, IfOk, IfErr, OnOk, OnErr};
+ghost use Rattle.std.specs.Prelude.{◌≡◌, ℕ, ◌≤◌, ◌<◌, List, length, take, Option, IfOk, OnOk, OnErr};
 ghost use Rattle.ck_io.specs.Faults.{Rose};
 ghost use Rattle.ck_io.specs.Sink.{appended, AppendsPrefix};
 

@@ -1,7 +1,5 @@
 //! Standard output as a sink.
-ghost use Rattle.std.specs.Prelude.{◌≡◌, ℕ, ◌≤◌, ◌<◌, length, take, None, IfOk, IfSome, OnErr};
-ghost use Rattle.ck_io.specs.Faults.{Rose};
-ghost use Rattle.ck_io.specs.Sink.{appended};
+ghost use Rattle.std.specs.Prelude.{◌≡◌, ◌≤◌, ◌<◌, length, None, IfSome};
 
 use crate::{Sink, SinkFailed};
 use std::io::ErrorKind;

@@ -1,8 +1,5 @@
 //! A shelf and a sink that never fail.
-ghost use Rattle.std.specs.Prelude.{◌≡◌, ℕ, ◌+◌, ◌-◌, ◌^◌, ◌≤◌, ◌<◌, ◌↔◌, List, length, take, min, Option, Some, None, Ok, IfOk, IfErr, IfSome, OnErr, vec_len};
-ghost use Rattle.ck_io.specs.Faults.{Rose, NeverFall};
-ghost use Rattle.ck_io.specs.Shelf.{HasCause, IsSettled, IsTooLong};
-ghost use Rattle.ck_io.specs.Sink.{appended};
+ghost use Rattle.std.specs.Prelude.{◌≡◌, ◌+◌, ◌-◌, ◌^◌, length, min, Some, None};
 ghost use Rattle.ck_io.specs.MemShelf.{contents, bytes_or_none};
 
 use crate::mem_shelf::place_of;

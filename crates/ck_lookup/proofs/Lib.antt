@@ -1,3 +1,6 @@
+pub mod Within
+pub mod Told
+pub mod Scripting
 pub mod Answering
 pub mod Reporting
 pub mod Ending

@@ -1,5 +1,5 @@
 -- Where all updates come before all queries, every answer's place is the number of all updates.
-use Rattle.std.proofs.Common.{◌≡◌, ℕ, zero, suc, ◌+◌, ◌<◌, ◌≤◌, List, [], ◌∷◌, length, map, take, get_or, refl, ap, subst, sym, ◌∙◌, arith, decimal, replicate, max}
+use Rattle.std.proofs.Common.{◌≡◌, ℕ, zero, suc, ◌+◌, ◌<◌, ◌≤◌, List, [], ◌∷◌, length, map, take, get_or, refl, ap, subst, sym, ◌∙◌, arith, decimal, replicate, Option, None}
 use Rattle.std.specs.List.{AllByRecursion}
 use Rattle.std.specs.List.Sorted.{IsNonDecreasing}
 use Rattle.std.specs.Ordering.{nat_cmp}
@@ -15,12 +15,14 @@ use Rattle.ck_script.specs.declared.line.AskLine.{AskLine}
 use Rattle.ck_script.specs.declared.line.AskLine.TheVariants.{Ask, Wait}
 use Rattle.ck_script.specs.Grammar.{FileSays, IsUpdateLine, update_words, IsQueryLine, query_words}
 use Rattle.ck_script.specs.Text.{lines}
-use Rattle.ck_script.specs.Script.{said_of, updates, holds, HoldLine, queries, greatest, bounded, script_of}
+use Rattle.ck_script.specs.Checks.{range_fault}
+use Rattle.ck_script.specs.Script.{said_of, updates, holds, HoldLine, queries, greatest, bounded, bounded_files, script_of, QueriesSay}
+use Rattle.ck_script.proofs.Ranges.{least_in_range}
 use Rattle.ck_script.proofs.Saying.{Say-taken}
 use Rattle.ck_report.specs.declared.asked.Asked.{Asked}
 use Rattle.ck_report.specs.Text.{report_text}
-use Rattle.ck_lookup.specs.Headline.{capacity, IsReport, asked}
-use Rattle.ck_lookup.specs.Running.{answers_of, text_of}
+use Rattle.ck_lookup.specs.Headline.{capacity, IsReport, asked, all_asked, AllLegal}
+use Rattle.ck_lookup.specs.Running.{answers_of, answers_of_files, text_of}
 
 -- what holds of each line holds of what it says
 said_all : {L : Type 0} (P : L → Type 0) (said : List (Numbered L)) → AllByRecursion (λ l. P l.what) said → AllByRecursion P (said_of said)
@@ -33,17 +35,7 @@ no_holds m [] all = refl
 no_holds m (Call u ∷ ups) all = no_holds (m + 1) ups all.1
 no_holds m (Hold file count ∷ ups) all = absurd all.0
 
--- no `wait` line is taken
-low_queries : (n low : ℕ) (asks : List (AskLine ℕ)) → low ≤ n → AllByRecursion (IsQueryLine IsKey) asks → AllByRecursion (λ q. q.1 ≤ n) (queries low asks)
-low_queries n low [] le all = tt
-low_queries n low (Ask key ∷ asks) le all = (le, low_queries n low asks le all.1)
-low_queries n low (Wait count ∷ asks) le all = absurd all.0
-
 module _ (us : List (Update ℕ)) where
-  -- the map after all updates
-  last : Map ℕ
-  last = after_from nat_cmp capacity [] us
-
   after_all : after nat_cmp capacity us (length us) ≡ after_from nat_cmp capacity [] us
   after_all = ap (after_from nat_cmp capacity []) (take_all (length us) us (omega arith))
 
@@ -68,20 +60,39 @@ module _ (us : List (Update ℕ)) where
   asked_all hs f i [] m = refl
   asked_all hs f i (q ∷ qs) m = ap (λ later. record { key = q.0; found = find nat_cmp m q.0 } ∷ later) (asked_all hs f (i + 1) qs m)
 
--- the text of lines that two files say is a report of them
-pub report_of_lines : (update_file query_file : List ℕ) (ups : List (Numbered (UpLine (Update ℕ)))) (asks : List (Numbered (AskLine ℕ))) (text : List ℕ) → FileSays (IsUpdateLine IsKey) (update_words decimal) update_file ups → FileSays (IsQueryLine IsKey) (query_words decimal) query_file asks → text ≡ text_of (said_of ups) (said_of asks) → IsReport update_file (query_file ∷ []) text
-report_of_lines update_file query_file ups asks text ups_said asks_said is =
+-- the answers of one map to the queries of each file
+abbrev found_in : Map ℕ → List (AskLine ℕ) → List (Option ℕ)
+found_in m asks = map (λ q. find nat_cmp m q.0) (queries 0 asks)
+
+-- are legal, where no query waits for more updates than there are
+legal_files : (us : List (Update ℕ)) (hs : List HoldLine) (f : ℕ) (asks : List (List (Numbered (AskLine ℕ)))) → hs ≡ [] → AllByRecursion (λ file. AllByRecursion (λ q. q.1 ≤ length us) (queries 0 (said_of file))) asks → AllLegal us (bounded_files (length us) hs f (map said_of asks)) (map (found_in (after_from nat_cmp capacity [] us)) (map said_of asks))
+legal_files us hs f [] none low = tt
+legal_files us hs f (a ∷ asks) none low = (
+  record {
+    places = replicate (length (queries 0 (said_of a))) (length us);
+    never_fall = same_falls_not us (length (queries 0 (said_of a))) (length us);
+    placed = placed_last us hs f 1 (queries 0 (said_of a)) none low.0;
+  },
+  legal_files us hs (f + 1) asks none low.1,
+)
+
+-- and are printed with their keys
+asked_files : (us : List (Update ℕ)) (hs : List HoldLine) (f : ℕ) (files : List (List (AskLine ℕ))) (m : Map ℕ) → all_asked (bounded_files (length us) hs f files) (map (found_in m) files) ≡ answers_of_files m files
+asked_files us hs f [] m = refl
+asked_files us hs f (a ∷ files) m = ap (λ x. x ∷ all_asked (bounded_files (length us) hs (f + 1) files) (map (found_in m) files)) (asked_all us hs f 1 (queries 0 a) m) ∙ ap (λ xs. answers_of m (queries 0 a) ∷ xs) (asked_files us hs (f + 1) files m)
+
+-- the text of what files say is a report of them
+pub report_of_scripts : (update_file : List ℕ) (query_files : List (List ℕ)) (ups : List (Numbered (UpLine (Update ℕ)))) (asks : List (List (Numbered (AskLine ℕ)))) (text : List ℕ) → FileSays (IsUpdateLine IsKey) (update_words decimal) update_file ups → QueriesSay IsKey decimal query_files asks → range_fault ups asks ≡ None → text ≡ text_of (said_of ups) (map said_of asks) → IsReport update_file query_files text
+report_of_scripts update_file query_files ups asks text ups_said asks_said in_range is =
     let us = updates (said_of ups) in
     let hs = holds 0 (said_of ups) in
-    let qs = queries 0 (said_of asks) in
     let end = after_from nat_cmp capacity [] us in
     let none = no_holds 0 (said_of ups) (said_all _ ups (Say-taken _ _ 1 (lines update_file) ups ups_said)) in
-    let low = low_queries (length us) 0 (said_of asks) (omega arith) (said_all _ asks (Say-taken _ _ 1 (lines query_file) asks asks_said)) in
-    let same : asked (bounded (length us) hs 1 1 qs) (map (λ q. find nat_cmp end q.0) qs) ≡ answers_of end qs = asked_all us hs 1 1 qs end in
+    let same : all_asked (bounded_files (length us) hs 1 (map said_of asks)) (map (found_in end) (map said_of asks)) ≡ answers_of_files end (map said_of asks) = asked_files us hs 1 (map said_of asks) end in
     record {
-      script = script_of (said_of ups) (said_of asks ∷ []);
-      meant = record { ups = ups; asks = asks ∷ []; updates_said = ups_said; queries_said = (asks_said, tt); asked = refl };
-      answers = map (λ q. find nat_cmp end q.0) qs ∷ [];
-      legal = (record { places = replicate (length qs) (length us); never_fall = same_falls_not us (length qs) (length us); placed = placed_last us hs 1 1 qs none low }, tt);
+      script = script_of (said_of ups) (map said_of asks);
+      meant = record { ups = ups; asks = asks; updates_said = ups_said; queries_said = asks_said; asked = refl };
+      answers = map (found_in end) (map said_of asks);
+      legal = legal_files us hs 1 asks none (least_in_range ups asks in_range);
       printed = is ∙ rw (same, after_all us) refl;
     }

@@ -1,6 +1,8 @@
 pub mod Words
 pub mod Parser
+pub mod Limits
 pub mod Headline
 pub mod Causes
 pub mod Running
+pub mod Fetching
 pub mod Outcomes

@@ -3,7 +3,7 @@ use Rattle.std.specs.Prelude.{ℕ, Bool, not, ◌==◌, ◌&&◌, if◌then◌el
 use Rattle.std.specs.List.{list_all, list_any, before_first, after_first}
 use Rattle.std.specs.Str.Parse.{digits_value}
 
--- what a run is asked: the seed of its delays, how many threads read, and the names of its update file and of its query files
+-- what a run is asked: the seed of its hashes, how many threads read, and the names of its update file and of its query files
 pub record Command : Type 0 where
   pub seed : ℕ
   pub workers : ℕ

@@ -1,10 +1,15 @@
 //! The whole of `lookup`: from the words of the command line and the bytes of the files to the bytes of the report.
 #![tactic(auto)]
 
+mod fetch;
+mod files;
 mod lookup;
 mod outcome;
 mod report;
+mod scripts;
 mod table;
+#[cfg(test)]
+mod tests;
 mod words;
 
 pub use lookup::run;

@@ -1,20 +1,18 @@
-ghost use Rattle.std.specs.Prelude.{◌≡◌, ◌≤◌, ◌↔◌, ℕ, List, [], ◌∷◌, map, Some, None, string_bytes, IfOk, IfErr};
+ghost use Rattle.std.specs.Prelude.{◌≡◌, ◌≤◌, ◌⊎◌, ℕ, List, ◌∷◌, map, Some, None, string_bytes, IfOk, IfErr};
 ghost use Rattle.ck_io.specs.Faults.{NeverFall};
 ghost use Rattle.ck_io.specs.Sink.{appended};
-ghost use Rattle.ck_lookup.specs.declared.outcome.Outcome.TheVariants.{Done, Usage};
-ghost use Rattle.ck_lookup.specs.Words.{Command, command_of};
+ghost use Rattle.ck_lookup.specs.declared.outcome.Outcome.TheVariants.{Done, Usage, NoMemory};
+ghost use Rattle.ck_lookup.specs.Words.{Command, names, command_of};
 ghost use Rattle.ck_lookup.specs.Headline.{IsReport};
 ghost use Rattle.ck_lookup.specs.Causes.{Tells, Ends, IsClear, IsDoneOrNoMemory};
 
+use crate::outcome::Outcome;
+use crate::report::report_of;
+use crate::words::read_words;
+use ck_io::{Gate, Shelf, Sink, put_all};
 use std::alloc::Global;
 use std::sync::Wait;
 use std::thread::Threads;
-
-use ck_io::{Gate, Shelf, Sink, put_all};
-
-use crate::outcome::Outcome;
-use crate::report::report_of;
-use crate::words::file_names;
 
 /// Does all that `lookup` does: reads the words, fetches the files that they name, checks them, makes the updates,
 /// answers the queries, and puts the report to the sink. The words are those after the program's name. Until the run
@@ -27,82 +25,84 @@ pub fn run<R: Threads + Wait + Sync, S: Shelf, K: Sink, G: Gate + Sync>(
     sink: &mut K,
     gate: &G,
 ) -> Outcome
-    // `Usage` exactly where the words are not of the form.
-    ensures usage { (result ≡ Usage) ↔ (command_of (map string_bytes words.now) ≡ None) }
+    // `Usage` exactly where the words are not of the form, unless memory is wanting; then nothing was put.
+    ensures usage { result ≡ Usage → command_of (map string_bytes words.now) ≡ None }
+    ensures unasked { command_of (map string_bytes words.now) ≡ None
+        → ((result ≡ Usage) ⊎ (result ≡ NoMemory)) × (K.taken sink.new ≡ K.taken sink.old) }
 
     // The headline. Where the run is done, and the shelf tells the bytes of the files, what the sink took in this run
     // is a report of these bytes.
     ensures report { (c : Command) (update_file : List ℕ) (query_files : List (List ℕ))
         → command_of (map string_bytes words.now) ≡ Some c
-        → Tells (S.held shelf.old) c update_file query_files
+        → Tells (S.held shelf.old) (names c) update_file query_files
         → result ≡ Done
         → (text : List ℕ) × IsReport update_file query_files text × (K.taken sink.new ≡ appended (K.taken sink.old) text) }
 
     // Every other outcome has its cause.
     ensures ends { (c : Command) → command_of (map string_bytes words.now) ≡ Some c
         → Ends (record {
-            held = S.held shelf.old;
-            shelf_before = S.faults shelf.old;
-            shelf_after = S.faults shelf.new;
-            taken_before = K.taken sink.old;
-            taken_after = K.taken sink.new;
-            sink_before = K.faults sink.old;
-            sink_after = K.faults sink.new
-        }) c result }
+          held = S.held shelf.old;
+          shelf_before = S.faults shelf.old;
+          shelf_after = S.faults shelf.new;
+          taken_before = K.taken sink.old;
+          taken_after = K.taken sink.new;
+          sink_before = K.faults sink.old;
+          sink_after = K.faults sink.new;
+        }) (names c) result }
 
     // Lawful files, and no fault of shelf or sink, give the whole report, unless memory is wanting.
     ensures complete { (c : Command) (update_file : List ℕ) (query_files : List (List ℕ))
         → command_of (map string_bytes words.now) ≡ Some c
         → IsClear (record {
-            held = S.held shelf.old;
-            shelf_before = S.faults shelf.old;
-            shelf_after = S.faults shelf.new;
-            taken_before = K.taken sink.old;
-            taken_after = K.taken sink.new;
-            sink_before = K.faults sink.old;
-            sink_after = K.faults sink.new
-        }) c update_file query_files
+          held = S.held shelf.old;
+          shelf_before = S.faults shelf.old;
+          shelf_after = S.faults shelf.new;
+          taken_before = K.taken sink.old;
+          taken_after = K.taken sink.new;
+          sink_before = K.faults sink.old;
+          sink_after = K.faults sink.new;
+        }) (names c) update_file query_files
         → IsDoneOrNoMemory result }
 
-    // Words that ask for no run leave the sink as it was. The shelf holds what it held, and no count of faults falls.
-    ensures unasked { result ≡ Usage → K.taken sink.new ≡ K.taken sink.old }
+    // The shelf holds what it held, and no count of faults falls.
     ensures held { S.held shelf.new ≡ S.held shelf.old }
     ensures shelf_lasting { NeverFall (S.faults shelf.old) (S.faults shelf.new) }
     ensures sink_lasting { K.faults sink.old ≤ K.faults sink.new }
 {
-    match file_names(words) {
-        None => Outcome::Usage,
-        Some((updates, query)) => run_table(alloc, updates, query, shelf, sink, gate),
+    match read_words(alloc, words) {
+        Ok(Some(command)) => run_table(alloc, command.updates, &command.queries, shelf, sink, gate),
+        Ok(None) => Outcome::Usage,
+        Err(_) => Outcome::NoMemory,
     }
 }
 
-// A run of the command that names these two files.
+// A run of the files under these names.
 fn run_table<S: Shelf, K: Sink, G: Gate>(
     alloc: Global,
     updates: &str,
-    query: &str,
+    queries: &[&str],
     shelf: &mut S,
     sink: &mut K,
     gate: &G,
 ) -> Outcome
     ensures report { (update_file : List ℕ) (query_files : List (List ℕ))
-        → Tells (S.held shelf.old) (record { updates = updates.now; queries = query.now ∷ [] }) update_file query_files
+        → Tells (S.held shelf.old) (updates.now ∷ map (λ name. name.now) queries.now) update_file query_files
         → result ≡ Done
         → (text : List ℕ) × IsReport update_file query_files text × (K.taken sink.new ≡ appended (K.taken sink.old) text) }
     ensures ends { Ends (record {
-            held = S.held shelf.old;
-            shelf_before = S.faults shelf.old;
-            shelf_after = S.faults shelf.new;
-            taken_before = K.taken sink.old;
-            taken_after = K.taken sink.new;
-            sink_before = K.faults sink.old;
-            sink_after = K.faults sink.new
-        }) (record { updates = updates.now; queries = query.now ∷ [] }) result }
+      held = S.held shelf.old;
+      shelf_before = S.faults shelf.old;
+      shelf_after = S.faults shelf.new;
+      taken_before = K.taken sink.old;
+      taken_after = K.taken sink.new;
+      sink_before = K.faults sink.old;
+      sink_after = K.faults sink.new;
+    }) (updates.now ∷ map (λ name. name.now) queries.now) result }
     ensures held { S.held shelf.new ≡ S.held shelf.old }
     ensures shelf_lasting { NeverFall (S.faults shelf.old) (S.faults shelf.new) }
     ensures sink_lasting { K.faults sink.old ≤ K.faults sink.new }
 {
-    match report_of(alloc, updates, query, shelf, gate) {
+    match report_of(alloc, updates, queries, shelf, gate) {
         Err(refusal) => refusal,
         Ok(text) => match put_all(sink, &text) {
             Ok(()) => Outcome::Done,

@@ -1,9 +1,8 @@
 ghost use Rattle.std.specs.Prelude.{◌≡◌, IfOk, string_bytes};
 ghost use Rattle.ck_lookup.specs.Outcomes.{text_of, why_text};
 
-use std::alloc::{AllocError, Global};
-
 use ck_script::Why;
+use std::alloc::{AllocError, AllocFailed, Global};
 
 /// How a run ended. File 0 is the update file, file f the query file with the number f.
 #[derive(Clone, Copy, PartialEq, Eq, Debug)]
@@ -87,6 +86,17 @@ impl From<AllocError> for Outcome {
     ghost from_gives = { λ _ outcome. outcome ≡ NoMemory };
 
     fn from(_: AllocError) -> Outcome {
+        Outcome::NoMemory
+    }
+}
+
+impl<T: Drop> From<AllocFailed<T>> for Outcome {
+    ghost use Rattle.std.specs.Prelude.{◌≡◌};
+    ghost use Rattle.ck_lookup.specs.declared.outcome.Outcome.TheVariants.{NoMemory};
+
+    ghost from_gives = { λ _ outcome. outcome ≡ NoMemory };
+
+    fn from(_: AllocFailed<T>) -> Outcome {
         Outcome::NoMemory
     }
 }

@@ -12,7 +12,7 @@ use std::alloc::{AllocError, Global};
 /// What the words of the command line ask for.
 #[derive(Debug, Drop)]
 pub struct Command<'a> {
-    /// The seed of the delays.
+    /// The seed of the hashes. The map of one thread has none, so it has no effect yet.
     pub seed: u64,
     /// How many threads read, 1 to 16.
     pub workers: u64,

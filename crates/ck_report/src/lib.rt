@@ -1,8 +1,19 @@
-//! Reports: the text of replies, answers and pairs. `specs/Text.antt` is the format, `docs/SCRIPTS.md` tells users of it.
+//! Reports: the text of replies, answers and pairs, printed and read. `specs/Text.antt` is the format,
+//! `specs/Reports.antt` says which texts are reports, and `docs/SCRIPTS.md` tells users of it.
 #![tactic(auto)]
 
 mod asked;
+mod gather;
+mod line;
+mod map_report;
+mod place;
 mod print;
+mod read;
+mod read_line;
+#[cfg(test)]
+mod tests;
 
 pub use asked::Asked;
+pub use map_report::{MapReport, ReportError};
 pub use print::report_map;
+pub use read::read_map_report;

@@ -1,13 +1,11 @@
 ghost use Rattle.std.specs.Prelude.{◌≡◌, ◌<◌, ◌^◌, ◌+◌, [], ◌∷◌, ◌++◌, IfOk, OnOk, OnErr, map, length, codes, decimal};
 ghost use Rattle.ck_report.specs.Text.{report_text, line, reply_words, reply_lines, answer_lines, file_lines, found_words, pair_lines};
 
-use std::alloc::{AllocError, Global};
-
+use crate::asked::Asked;
 use ck_history::Reply;
 use ck_script::KeyWord;
 use itoa::Buffer;
-
-use crate::asked::Asked;
+use std::alloc::{AllocError, Global};
 
 /// The text of a report: the replies, the answers of each query file, and the pairs at the end.
 pub fn report_map<K: KeyWord>(
@@ -84,7 +82,11 @@ fn print_files<K: KeyWord>(out: &mut Vec<u8>, files: &[Vec<Asked<K>>]) -> Result
 }
 
 // The lines of the answers of one file.
-fn print_answers<K: KeyWord>(out: &mut Vec<u8>, f: u64, answers: &[Asked<K>]) -> Result<(), AllocError>
+fn print_answers<K: KeyWord>(
+    out: &mut Vec<u8>,
+    f: u64,
+    answers: &[Asked<K>],
+) -> Result<(), AllocError>
     ensures { OnOk result (out.new.items ≡ out.old.items ++ answer_lines K.spelling f 1 answers.now) }
 {
     let mut i: u64 = 0;
@@ -96,7 +98,12 @@ fn print_answers<K: KeyWord>(out: &mut Vec<u8>, f: u64, answers: &[Asked<K>]) ->
 }
 
 // The line of one answer.
-fn print_answer<K: KeyWord>(out: &mut Vec<u8>, f: u64, i: u64, answer: &Asked<K>) -> Result<(), AllocError>
+fn print_answer<K: KeyWord>(
+    out: &mut Vec<u8>,
+    f: u64,
+    i: u64,
+    answer: &Asked<K>,
+) -> Result<(), AllocError>
     ensures { OnOk result (out.new.items ≡ out.old.items ++ line (codes "q" ∷ decimal f ∷ decimal i ∷ K.spelling answer.now.key ∷ found_words answer.now.found)) }
 {
     out.extend_from_slice(b"q ")?;

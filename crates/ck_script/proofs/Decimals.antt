@@ -1,5 +1,5 @@
 -- Numbers and their one spelling.
-use Rattle.std.proofs.Common.{◌≡◌, ◌≢◌, ℕ, zero, suc, ◌+◌, ◌*◌, ◌-◌, ◌/◌, ◌%◌, ◌^◌, ◌<◌, ◌≤◌, List, [], ◌∷◌, ◌++◌, length, get_or, take, refl, ap, arith, ◌∙◌, sym, lit≤, decimal, inl, inr, add-one, lit<}
+use Rattle.std.proofs.Common.{◌≡◌, ◌≢◌, ℕ, zero, suc, ◌+◌, ◌*◌, ◌/◌, ◌%◌, ◌^◌, ◌<◌, ◌≤◌, List, [], ◌∷◌, ◌++◌, length, get_or, take, ap, arith, ◌∙◌, sym, lit≤, decimal, inl, inr, add-one, lit<}
 use Rattle.std.specs.Char.{digit_value}
 use Rattle.std.specs.Str.Parse.{AllDigits, IsNumeral, digits_value}
 use Rattle.std.proofs.lemmas.Bool.{cases_eq}
@@ -29,6 +29,7 @@ first_digit n h = decimal_by_steps_wide HasFirst one more n h
   where
     one : (n : ℕ) → n < 10 → HasFirst n ((48 + n) ∷ [])
     one n lt = (omega arith, λ pos. omega arith)
+
     more : (n : ℕ) (ds : List ℕ) → 10 ≤ n → HasFirst (n / 10) ds → HasFirst n (ds ++ ((48 + n % 10) ∷ []))
     more n ds le p =
         let digit : 0 < n / 10 = omega arith in (

@@ -1,5 +1,5 @@
 -- What is said by a file that is read line by line.
-use Rattle.std.proofs.Common.{◌≡◌, ℕ, zero, suc, ◌+◌, ◌<◌, ◌≤◌, ◌⊎◌, List, [], ◌∷◌, ◌++◌, length, refl, ap, arith, ◌∙◌, sym, subst, inl, inr, append_assoc, append-nil, add-zero}
+use Rattle.std.proofs.Common.{◌≡◌, ℕ, suc, ◌+◌, ◌⊎◌, List, [], ◌∷◌, ◌++◌, length, refl, ap, arith, ◌∙◌, sym, subst, inl, inr, append_assoc, append-nil, add-zero}
 use Rattle.std.proofs.lemmas.List.{length_push}
 use Rattle.std.specs.List.{AllByRecursion}
 use Rattle.ck_script.specs.declared.line.Numbered.{Numbered}
@@ -89,3 +89,18 @@ module _ {L : Type 0} (IsTaken : L → Type 0) (spelling : L → List (List ℕ)
         | inl silent ↦ faulty.speaks silent
         | inr (what, spoken) ↦ faulty.outside what spoken
       ]
+
+  -- a file says at most one thing
+  module _ (one_line : (a b : L) → IsTaken a → IsTaken b → spelling a ≡ spelling b → a ≡ b) (speaks : (what : L) (line : List ℕ) → IsTaken what → words line ≡ spelling what → IsSilent line → ⊥) where
+    Say-one : (n : ℕ) (ls : List (List ℕ)) (a b : List (Numbered L)) → Say IsTaken spelling n ls a → Say IsTaken spelling n ls b → a ≡ b
+    Say-one n [] a b says_a says_b = says_a ∙ sym says_b
+    Say-one n (line ∷ ls) a b (inl (silent, later)) (inl (quiet, other)) = Say-one (n + 1) ls a b later other
+    Say-one n (line ∷ ls) a b (inl (silent, later)) (inr (what, more, is, says, other)) = absurd (speaks what line says.taken says.spelt silent)
+    Say-one n (line ∷ ls) a b (inr (what, more, is, says, later)) (inl (silent, other)) = absurd (speaks what line says.taken says.spelt silent)
+    Say-one n (line ∷ ls) a b (inr (x, xs, is_a, says_a, later)) (inr (y, ys, is_b, says_b, other)) =
+        let same = one_line x y says_a.taken says_b.taken (sym says_a.spelt ∙ says_b.spelt) in
+        let rest = Say-one (n + 1) ls xs ys later other in
+        is_a ∙ (ap (λ w. record { line = n; what = w } ∷ xs) same ∙ (ap (λ ms. record { line = n; what = y } ∷ ms) rest ∙ sym is_b))
+
+    pub says_one : (bytes : List ℕ) (a b : List (Numbered L)) → FileSays IsTaken spelling bytes a → FileSays IsTaken spelling bytes b → a ≡ b
+    says_one bytes a b says_a says_b = Say-one 1 (lines bytes) a b says_a says_b

@@ -1,5 +1,5 @@
 -- The words of a lawful line have no fault.
-use Rattle.std.specs.Prelude.{◌≡◌, ℕ, ◌⊎◌, List, [], ◌∷◌, length, decimal, refl}
+use Rattle.std.specs.Prelude.{◌≡◌, ℕ, List, [], ◌∷◌, length, decimal, refl}
 use Rattle.std.proofs.Common.{inl, inr, subst}
 use Rattle.ck_history.specs.declared.update.Update.{Update}
 use Rattle.ck_history.specs.declared.update.Update.TheVariants.{Set, Put, Del, Tidy}

@@ -1,5 +1,5 @@
 -- What a script file says, and what is wrong with the first line that is outside the grammar.
-use Rattle.std.specs.Prelude.{◌≡◌, ◌≢◌, ℕ, ◌+◌, ◌<◌, ◌^◌, ◌⊎◌, List, [], ◌∷◌, ◌++◌, length, Option, Some, None, MatchOption, codes, decimal}
+use Rattle.std.specs.Prelude.{◌≡◌, ◌≢◌, ℕ, ◌+◌, ◌<◌, ◌^◌, ◌⊎◌, List, [], ◌∷◌, ◌++◌, length, MatchOption, codes, decimal}
 use Rattle.std.specs.Map.{lookup}
 use Rattle.std.specs.Str.{bytes_eq}
 use Rattle.ck_history.specs.declared.update.Update.{Update}
@@ -31,8 +31,8 @@ module _ {L : Type 0} (IsTaken : L → Type 0) (spelling : L → List (List ℕ)
   abbrev pub Say : ℕ → List (List ℕ) → List (Numbered L) → Type 0
   Say n [] said = said ≡ []
   Say n (line ∷ later) said =
-    (IsSilent line × Say (n + 1) later said)
-    ⊎ ((what : L) × (more : List (Numbered L)) × (said ≡ record { line = n; what = what } ∷ more) × Says line what × Say (n + 1) later more)
+      (IsSilent line × Say (n + 1) later said)
+      ⊎ ((what : L) × (more : List (Numbered L)) × (said ≡ record { line = n; what = what } ∷ more) × Says line what × Say (n + 1) later more)
 
   -- the file says this, line by line
   abbrev pub FileSays : List ℕ → List (Numbered L) → Type 0
@@ -41,8 +41,8 @@ module _ {L : Type 0} (IsTaken : L → Type 0) (spelling : L → List (List ℕ)
   -- a further line, of this number, adds what it says to what was said
   abbrev pub Adds : ℕ → List ℕ → List (Numbered L) → List (Numbered L) → Type 0
   Adds n line old new =
-    (IsSilent line × (new ≡ old))
-    ⊎ ((what : L) × Says line what × (new ≡ old ++ record { line = n; what = what } ∷ []))
+      (IsSilent line × (new ≡ old))
+      ⊎ ((what : L) × Says line what × (new ≡ old ++ record { line = n; what = what } ∷ []))
 
   -- the fault is at the first line that is outside the grammar, and HasFault tells of its words what it is
   pub record IsFirstFault (HasFault : List (List ℕ) → Why → Type 0) (bytes : List ℕ) (fault : ScriptFault) : Type 0 where
@@ -81,8 +81,8 @@ module _ {K : Type 0} (IsKey : K → Type 0) (spelling : K → List ℕ) (IsKeyF
   -- what is wrong with the words after a verb that wants these: their number first
   abbrev pub HasArgumentFault : List Argument → List (List ℕ) → Why → Type 0
   HasArgumentFault wanted ws why =
-    ((why ≡ Shape) × (length ws ≢ length wanted))
-    ⊎ ((length ws ≡ length wanted) × FirstWrong wanted ws why)
+      ((why ≡ Shape) × (length ws ≢ length wanted))
+      ⊎ ((length ws ≡ length wanted) × FirstWrong wanted ws why)
 
   -- what is wrong with the words of a line, by a table of verbs: the verb first
   abbrev pub HasFault : List (List ℕ × List Argument) → List (List ℕ) → Why → Type 0
@@ -122,18 +122,18 @@ module _ {K : Type 0} (IsKey : K → Type 0) where
 -- the verbs of update files that are taken, with what follows them
 abbrev pub update_verbs : List (List ℕ × List Argument)
 update_verbs =
-  (codes "set", key ∷ number ∷ [])
-  ∷ (codes "put", key ∷ number ∷ [])
-  ∷ (codes "del", key ∷ [])
-  ∷ (codes "tidy", [])
-  ∷ []
+    (codes "set", key ∷ number ∷ [])
+    ∷ (codes "put", key ∷ number ∷ [])
+    ∷ (codes "del", key ∷ [])
+    ∷ (codes "tidy", [])
+    ∷ []
 
 -- the verbs of query files that are taken
 abbrev pub query_verbs : List (List ℕ × List Argument)
 query_verbs =
-  (codes "get", key ∷ [])
-  ∷ (codes "wait", number ∷ [])
-  ∷ []
+    (codes "get", key ∷ [])
+    ∷ (codes "wait", number ∷ [])
+    ∷ []
 
 -- the fact, where the script wasn't refused for want of memory
 abbrev pub IfFault : ScriptError → (ScriptFault → Type 0) → Type 0

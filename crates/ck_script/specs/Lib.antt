@@ -4,3 +4,6 @@ pub mod Keys
 pub mod Script
 pub mod Reading
 pub mod Faultless
+pub mod Checks
+pub mod Fronts
+pub mod Unique

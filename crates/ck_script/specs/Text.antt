@@ -1,7 +1,7 @@
 -- A file as lines, and a line as words.
-use Rattle.std.specs.Prelude.{◌≡◌, ℕ, List, [], ◌∷◌, length, ◌==◌, if◌then◌else◌, Option, Some, None}
+use Rattle.std.specs.Prelude.{◌≡◌, ◌≢◌, ℕ, List, [], ◌∷◌, length, ◌==◌, if◌then◌else◌, Option, Some, None}
 use Rattle.std.specs.Borrow.{Bor}
-use Rattle.std.specs.List.{slice_split}
+use Rattle.std.specs.List.{slice_split, AllByRecursion}
 
 -- the parts before, between and after the bytes equal to c
 abbrev pub parts : ℕ → List ℕ → List (List ℕ)
@@ -20,6 +20,10 @@ lines bytes = last_if_any (parts 10 bytes)
 -- the words of a line: it is split at each space, so that two spaces in a row make an empty word
 abbrev pub words : List ℕ → List (List ℕ)
 words line = parts 32 line
+
+-- the bytes make one word: they have no space and no line feed
+abbrev pub IsWord : List ℕ → Type 0
+IsWord word = AllByRecursion (λ b. (b ≢ 32) × (b ≢ 10)) word
 
 -- the words of what stands after a line's first space
 abbrev pub words_after : Option (Bor (List ℕ)) → List (List ℕ)

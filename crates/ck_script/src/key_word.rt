@@ -1,12 +1,10 @@
 ghost use Rattle.std.specs.Prelude.{◌≡◌, ◌++◌, MatchResult, OnOk, OnErr};
 
-use std::alloc::AllocError;
-
-use ck_history::Key;
-use itoa::Buffer;
-
 use crate::decimal::read_decimal;
 use crate::fault::Why;
+use ck_history::Key;
+use itoa::Buffer;
+use std::alloc::AllocError;
 
 /// A key that scripts and reports spell as one word.
 pub trait KeyWord: Copy {
@@ -21,6 +19,7 @@ pub trait KeyWord: Copy {
 
     ghost use Rattle.std.specs.Prelude.{◌≡◌, ℕ, List};
     ghost use Rattle.ck_script.specs.declared.fault.Why.{Why};
+    ghost use Rattle.ck_script.specs.Text.{IsWord};
 
     /// The key that the word spells, or what is wrong with the word.
     fn read_word(text: &[u8]) -> Result<Self, Why>
@@ -36,12 +35,15 @@ pub trait KeyWord: Copy {
 
     /// A word that spells a key has no fault.
     ghost faultless: { (k : Self) (why : Why) → is_key k → is_fault (spelling k) why → ⊥ };
+
+    /// A key's spelling is one word.
+    ghost one_word: { (k : Self) → is_key k → IsWord (spelling k) };
 }
 
 impl KeyWord for Key {
     ghost use Rattle.std.specs.Prelude.{decimal};
     ghost use Rattle.ck_history.specs.Key.{IsKey};
-    ghost use Rattle.ck_script.specs.Keys.{IsTableKeyFault, one_table_key, table_key_faultless};
+    ghost use Rattle.ck_script.specs.Keys.{IsTableKeyFault, one_table_key, table_key_faultless, table_key_one_word};
 
     ghost is_key = { IsKey };
 
@@ -52,6 +54,8 @@ impl KeyWord for Key {
     ghost one_key = { one_table_key };
 
     ghost faultless = { table_key_faultless };
+
+    ghost one_word = { table_key_one_word };
 
     fn read_word(text: &[u8]) -> Result<Key, Why> {
         match read_decimal(text, u128::MAX) {

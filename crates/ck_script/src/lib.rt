@@ -3,6 +3,8 @@
 #![tactic(auto)]
 
 mod arguments;
+mod check;
+mod circle;
 mod decimal;
 mod fault;
 mod key_word;
@@ -11,9 +13,14 @@ mod parts;
 mod read;
 mod script_line;
 
+pub use check::{RangeFault, check_ranges};
+pub use circle::check_circles;
 pub use decimal::{read_decimal, read_number};
 pub use fault::{ScriptError, ScriptFault, Why};
 pub use key_word::KeyWord;
 pub use line::{AskLine, Numbered, UpLine};
 pub use parts::{cut, first_line};
 pub use read::{read_queries, read_updates};
+
+#[cfg(test)]
+mod tests;

@@ -2,28 +2,34 @@ ghost use Rattle.std.specs.Prelude.{◌≡◌, ◌<◌, ◌^◌, IfOk, IfErr, On
 ghost use Rattle.ck_script.specs.Grammar.{FileSays, IsFirstFault, IfFault, Adds, HasFault, update_words, IsUpdateLine, update_verbs, query_words, IsQueryLine, query_verbs};
 ghost use Rattle.ck_script.specs.Reading.{IsFaultyLine};
 
-use std::alloc::{AllocError, Global};
-
-use ck_history::Update;
-
 use crate::fault::{ScriptError, ScriptFault, Why};
 use crate::key_word::KeyWord;
 use crate::line::{AskLine, Numbered, UpLine};
 use crate::parts::first_line;
 use crate::script_line::ScriptLine;
+use ck_history::Update;
+use std::alloc::{AllocError, Global};
 
-/// What the lines of an update file say, in order, blank lines and comments left out.
-pub fn read_updates<K: KeyWord>(alloc: Global, bytes: &[u8]) -> Result<Vec<Numbered<UpLine<Update<K>>>>, ScriptError>
+/// What the lines of an update file say, in order, blank lines and comments left out. A file says at most one thing.
+pub fn read_updates<K: KeyWord>(
+    alloc: Global,
+    bytes: &[u8],
+) -> Result<Vec<Numbered<UpLine<Update<K>>>>, ScriptError>
     ensures read { IfOk result (λ said. FileSays (IsUpdateLine K.is_key) (update_words K.spelling) bytes.now said.items) }
+    ensures only { IfOk result (λ said. (other : _) → FileSays (IsUpdateLine K.is_key) (update_words K.spelling) bytes.now other → other ≡ said.items) }
     ensures fault { IfErr result (λ error. IfFault error
         (IsFirstFault (IsUpdateLine K.is_key) (update_words K.spelling) (HasFault K.is_key K.spelling K.is_fault update_verbs) bytes.now)) }
 {
     read_lines(alloc, bytes)
 }
 
-/// What the lines of a query file say, in order, blank lines and comments left out.
-pub fn read_queries<K: KeyWord>(alloc: Global, bytes: &[u8]) -> Result<Vec<Numbered<AskLine<K>>>, ScriptError>
+/// What the lines of a query file say, in order, blank lines and comments left out. A file says at most one thing.
+pub fn read_queries<K: KeyWord>(
+    alloc: Global,
+    bytes: &[u8],
+) -> Result<Vec<Numbered<AskLine<K>>>, ScriptError>
     ensures read { IfOk result (λ said. FileSays (IsQueryLine K.is_key) (query_words K.spelling) bytes.now said.items) }
+    ensures only { IfOk result (λ said. (other : _) → FileSays (IsQueryLine K.is_key) (query_words K.spelling) bytes.now other → other ≡ said.items) }
     ensures fault { IfErr result (λ error. IfFault error
         (IsFirstFault (IsQueryLine K.is_key) (query_words K.spelling) (HasFault K.is_key K.spelling K.is_fault query_verbs) bytes.now)) }
 {
@@ -33,6 +39,7 @@ pub fn read_queries<K: KeyWord>(alloc: Global, bytes: &[u8]) -> Result<Vec<Numbe
 // What the lines of one kind say.
 fn read_lines<L: ScriptLine>(alloc: Global, bytes: &[u8]) -> Result<Vec<Numbered<L>>, ScriptError>
     ensures read { IfOk result (λ said. FileSays L.is_taken L.spelling bytes.now said.items) }
+    ensures only { IfOk result (λ said. (other : _) → FileSays L.is_taken L.spelling bytes.now other → other ≡ said.items) }
     ensures fault { IfErr result (λ error. IfFault error (IsFirstFault L.is_taken L.spelling L.is_fault bytes.now)) }
 {
     let mut said = Vec::new(alloc);
@@ -48,7 +55,11 @@ fn read_lines<L: ScriptLine>(alloc: Global, bytes: &[u8]) -> Result<Vec<Numbered
 }
 
 // Adds what a line says, if it says something.
-fn add_line<L: ScriptLine>(said: &mut Vec<Numbered<L>>, number: u64, line: &[u8]) -> Result<(), ScriptError>
+fn add_line<L: ScriptLine>(
+    said: &mut Vec<Numbered<L>>,
+    number: u64,
+    line: &[u8],
+) -> Result<(), ScriptError>
     ensures ok { OnOk result (Adds L.is_taken L.spelling number line.now said.old.items said.new.items) }
     ensures fault { IfErr result (λ error. IfFault error (IsFaultyLine L.is_fault number line.now)) }
 {

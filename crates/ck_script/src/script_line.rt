@@ -2,18 +2,18 @@ ghost use Rattle.std.specs.Prelude.{MatchResult};
 ghost use Rattle.ck_script.specs.Grammar.{Says};
 ghost use Rattle.ck_script.specs.Text.{words};
 
-use ck_history::Update;
-
 use crate::arguments::{key_and_number, no_word, only_key, only_number};
 use crate::fault::Why;
 use crate::key_word::KeyWord;
 use crate::line::{AskLine, UpLine};
 use crate::parts::cut;
+use ck_history::Update;
 
 /// What one line of a script says, for the scripts of one kind.
 pub trait ScriptLine: Copy {
     ghost use Rattle.std.specs.Prelude.{◌≡◌, ℕ, List};
     ghost use Rattle.ck_script.specs.declared.fault.Why.{Why};
+    ghost use Rattle.ck_script.specs.Text.{words, IsSilent};
 
     /// What a script may say.
     ghost is_taken: { Self → Type 0 };
@@ -28,6 +28,12 @@ pub trait ScriptLine: Copy {
     fn read_line(line: &[u8]) -> Result<Self, Why>
         ensures { MatchResult result (Says is_taken spelling line.now) (is_fault (words line.now)) };
 
+    /// No two lines have the same words.
+    ghost one_line: { (a b : Self) → is_taken a → is_taken b → spelling a ≡ spelling b → a ≡ b };
+
+    /// Blank lines and comments say nothing.
+    ghost speaks: { (what : Self) (line : List ℕ) → is_taken what → words line ≡ spelling what → IsSilent line → ⊥ };
+
     /// The words of a lawful line have no fault.
     ghost faultless: { (what : Self) (why : Why) → is_taken what → is_fault (spelling what) why → ⊥ };
 }
@@ -35,12 +41,17 @@ pub trait ScriptLine: Copy {
 impl<K: KeyWord> ScriptLine for UpLine<Update<K>> {
     ghost use Rattle.ck_script.specs.Grammar.{IsUpdateLine, update_words, update_verbs, HasFault};
     ghost use Rattle.ck_script.specs.Faultless.{update_faultless};
+    ghost use Rattle.ck_script.specs.Unique.{one_update_line, update_speaks};
 
     ghost is_taken = { IsUpdateLine K.is_key };
 
     ghost spelling = { update_words K.spelling };
 
     ghost is_fault = { HasFault K.is_key K.spelling K.is_fault update_verbs };
+
+    ghost one_line = { one_update_line K.is_key K.spelling K.one_key };
+
+    ghost speaks = { update_speaks K.is_key K.spelling };
 
     ghost faultless = { update_faultless K.is_key K.spelling K.is_fault K.faultless };
 
@@ -66,12 +77,17 @@ impl<K: KeyWord> ScriptLine for UpLine<Update<K>> {
 impl<K: KeyWord> ScriptLine for AskLine<K> {
     ghost use Rattle.ck_script.specs.Grammar.{IsQueryLine, query_words, query_verbs, HasFault};
     ghost use Rattle.ck_script.specs.Faultless.{query_faultless};
+    ghost use Rattle.ck_script.specs.Unique.{one_query_line, query_speaks};
 
     ghost is_taken = { IsQueryLine K.is_key };
 
     ghost spelling = { query_words K.spelling };
 
     ghost is_fault = { HasFault K.is_key K.spelling K.is_fault query_verbs };
+
+    ghost one_line = { one_query_line K.is_key K.spelling K.one_key };
+
+    ghost speaks = { query_speaks K.is_key K.spelling };
 
     ghost faultless = { query_faultless K.is_key K.spelling K.is_fault K.faultless };
 

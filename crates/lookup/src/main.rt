@@ -2,14 +2,13 @@
 //! All that it does is `ck_lookup::run`; here are only the real shelf, sink and gate.
 #![tactic(auto)]
 
+use ck_io::{FileShelf, OpenGate, StdSink};
+use ck_lookup::{Outcome, line_of, run};
 use std::alloc::Global;
 use std::env;
 use std::io::ErrorKind;
 use std::process::ExitCode;
 use std::rt::Env;
-
-use ck_io::{FileShelf, OpenGate, StdSink};
-use ck_lookup::{Outcome, line_of, run};
 
 fn main(rt: HostRuntime) -> ExitCode {
     let outcome = match words(&rt) {

@@ -1,17 +1,20 @@
-use Rattle.std.proofs.Common.{List, ℕ, [], ◌∷◌, ◌∙◌, ap, sym}
-use Rattle.std.proofs.lemmas.Result.{IfOk-weaker, IfErr-weaker}
+use Rattle.std.proofs.Common.{List, ℕ, ◌≡◌, ◌∷◌, map, ◌∙◌, sym, subst}
+use Rattle.std.proofs.lemmas.Result.{MatchResult-from_both}
+use Rattle.ck_lookup.specs.Causes.{AreAllWithin, Tells}
 use Rattle.ck_lookup.specs.Headline.{IsReport}
-use Rattle.ck_lookup.specs.Running.{IsRefusedScript}
-use Rattle.ck_lookup.proofs.Ending.{both_told, both_refused, report_same}
+use Rattle.ck_lookup.specs.Running.{IsRefusedScript, IsRefusedRun}
+use Rattle.ck_lookup.proofs.Ending.{all_within, told_files, refused_script, some_read, ok_always, ok_each, err_each}
 use Rattle.ck_lookup.proofs.report.report_of.Goals as goal
+
+pub returns-clause-within : goal.returns-clause-within
+returns-clause-within g c = ok_always _ _ (all_within (g.S.Shelf.held c.args.shelf.now) (c.args.updates.now ∷ map (λ name. name.now) c.args.queries.now) _ c.in_ok-files.ensures.read c.in_ok-files.ensures.within)
 
 pub returns-clause-report : goal.returns-clause-report
 returns-clause-report g c =
-    IfOk-weaker _ (λ text. IsReport c.deref.result.now (c.deref-2.result.now ∷ []) text.items) _ (λ text report update_file query_files tells.
-      let same = both_told (g.S.Shelf.held c.args.shelf.now) c.args.updates.now c.args.query.now c.in_ok-update_bytes.update_bytes.items c.in_ok-query_bytes.query_bytes.items c.in_ok-update_bytes.ensures.bytes (rw c.fetch_file.ensures.held at c.in_ok-query_bytes.ensures.bytes) update_file query_files tells in
-      report_same _ update_file _ query_files text.items (same.0 ∙ sym c.deref.ensures.value) (same.1 ∙ ap (λ b. b ∷ []) (sym c.deref-2.ensures.value)) report) c.text_of_files.ensures.report
+    ok_each _ _ (λ u qs tells. c.text_of_files.ensures.report u qs (c.all.ensures.all ∙ told_files (g.S.Shelf.held c.args.shelf.now) (c.args.updates.now ∷ map (λ name. name.now) c.args.queries.now) _ u qs c.in_ok-files.ensures.read tells))
 
 pub returns-clause-refused : goal.returns-clause-refused
 returns-clause-refused g c =
-    IfErr-weaker _ (IsRefusedScript (c.deref.result.now ∷ c.deref-2.result.now ∷ [])) _ (λ outcome refused.
-      both_refused (g.S.Shelf.held c.args.shelf.now) c.args.updates.now c.args.query.now c.in_ok-update_bytes.update_bytes.items c.in_ok-query_bytes.query_bytes.items c.in_ok-update_bytes.ensures.bytes (rw c.fetch_file.ensures.held at c.in_ok-query_bytes.ensures.bytes) c.in_ok-update_bytes.ensures.within c.in_ok-query_bytes.ensures.within _ _ outcome (rw (c.deref.ensures.value, c.deref-2.ensures.value) at refused)) c.text_of_files.ensures.refused
+    let names = c.args.updates.now ∷ map (λ name. name.now) c.args.queries.now in
+    let some = some_read (g.S.Shelf.held c.args.shelf.now) c.args.updates.now (map (λ name. name.now) c.args.queries.now) _ c.in_ok-files.ensures.read in
+    err_each _ _ (λ outcome refused. refused_script (g.S.Shelf.held c.args.shelf.now) names _ (g.S.Shelf.faults c.args.shelf.now) (g.S.Shelf.faults c.fetch_all.new.shelf) outcome c.in_ok-files.ensures.read c.in_ok-files.ensures.within (λ u qs is. refused u qs (c.all.ensures.all ∙ is)) some.0 some.1 some.2) (λ u qs is. c.text_of_files.ensures.refused u qs is)

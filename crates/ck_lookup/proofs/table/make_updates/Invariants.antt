@@ -9,6 +9,6 @@ use Rattle.ck_lookup.proofs.table.make_updates.Given as goal
 abbrev pub invariant-loop-up : goal.invariant-loop-up
 invariant-loop-up g l = record {
   most : l.book.most ≡ capacity;
-  map : after_from nat_cmp capacity l.book.pairs (updates (said_of (drop l.up-index l.ups))) ≡ after_from nat_cmp capacity [] (updates (said_of l.ups));
+  table : after_from nat_cmp capacity l.book.pairs (updates (said_of (drop l.up-index l.ups))) ≡ after_from nat_cmp capacity [] (updates (said_of l.ups));
   replies : l.replies.items ++ replies_from nat_cmp capacity l.book.pairs (updates (said_of (drop l.up-index l.ups))) ≡ replies_from nat_cmp capacity [] (updates (said_of l.ups));
 }

@@ -1,4 +1,4 @@
-use Rattle.std.proofs.Common.{refl, arith, length}
+use Rattle.std.proofs.Common.{refl, arith}
 use Rattle.ck_script.proofs.Cutting.{parts_some}
 use Rattle.ck_script.proofs.arguments.no_word.Goals as goal
 

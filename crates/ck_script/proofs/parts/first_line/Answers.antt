@@ -1,4 +1,4 @@
-use Rattle.ck_script.proofs.Cutting.{lines_more, lines_one}
+use Rattle.ck_script.proofs.Cutting.{lines_more}
 use Rattle.ck_script.proofs.parts.first_line.Goals as goal
 
 pub returns-in-Some-clause-lines : goal.returns-in-Some-clause-lines

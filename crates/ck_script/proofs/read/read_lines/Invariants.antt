@@ -1,5 +1,4 @@
-use Rattle.std.proofs.Common.{◌≡◌, ◌+◌, ◌≤◌, length}
-use Rattle.ck_script.specs.Text.{lines}
+use Rattle.std.proofs.Common.{◌+◌, ◌≤◌, length}
 use Rattle.ck_script.proofs.Saying.{Read}
 use Rattle.ck_script.proofs.read.read_lines.Given as goal
 

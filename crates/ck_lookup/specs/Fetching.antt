@@ -1,0 +1,39 @@
+-- What the fetching of a run's files keeps.
+use Rattle.std.specs.Prelude.{◌≡◌, ℕ, List, [], ◌∷◌, ◌++◌, length, sum_by, Option, IfSome}
+use Rattle.ck_io.specs.Faults.{Rose}
+use Rattle.ck_lookup.specs.declared.files.NotAdded.{NotAdded}
+use Rattle.ck_lookup.specs.declared.files.NotAdded.TheVariants.{TooLarge, Memory}
+use Rattle.ck_lookup.specs.declared.outcome.Outcome.{Outcome}
+use Rattle.ck_lookup.specs.declared.outcome.Outcome.TheVariants as outcome
+use Rattle.ck_lookup.specs.Limits.{AreWithin, line_count}
+
+-- files within the limits, and how many bytes and lines they have
+pub record AreCounted (files : List (List ℕ)) (bytes lines : ℕ) : Type 0 where
+  pub within : AreWithin files
+  pub count_of_bytes : bytes ≡ sum_by length files
+  pub count_of_lines : lines ≡ sum_by line_count files
+
+-- why a file wasn't added to these: with it they would be past a limit, or memory was wanting
+abbrev pub IsNotAdded : List (List ℕ) → List ℕ → List (List ℕ) → NotAdded → Type 0
+IsNotAdded old file new TooLarge = (new ≡ old) × (AreWithin (old ++ file ∷ []) → ⊥)
+IsNotAdded old file new Memory = new ≡ old
+
+-- the files under some names were read: they are what is told under each, where that is told
+abbrev pub AreRead : {N : Type 0} → (N → Option (List ℕ)) → List N → List (List ℕ) → Type 0
+AreRead told [] [] = Unit {0}
+AreRead told (name ∷ names) (file ∷ files) = IfSome (told name) (λ bytes. file ≡ bytes) × AreRead told names files
+AreRead told _ _ = ⊥
+
+-- one more file was read, under a name that has these bytes, where they are told
+pub record IsNext (told : Option (List ℕ)) (old new : List (List ℕ)) : Type 0 where
+  pub file : List ℕ
+  pub added : new ≡ old ++ file ∷ []
+  pub read : IfSome told (λ bytes. file ≡ bytes)
+  pub within : AreWithin new
+
+-- the outcome where the next file, with this number, wasn't read
+abbrev pub IsRefusedNext : ℕ → Option (List ℕ) → List (List ℕ) → ℕ → ℕ → Outcome → Type 0
+IsRefusedNext file told old before after (outcome.ReadFault f) = (f ≡ file) × Rose before after
+IsRefusedNext file told old before after (outcome.TooLarge f) = (f ≡ file) × IfSome told (λ bytes. AreWithin (old ++ bytes ∷ []) → ⊥)
+IsRefusedNext file told old before after outcome.NoMemory = Unit {0}
+IsRefusedNext file told old before after _ = ⊥

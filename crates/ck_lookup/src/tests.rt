@@ -1,0 +1,293 @@
+//! Whole runs over a shelf and a sink in memory.
+ghost use Rattle.std.specs.Prelude.{◌≤◌};
+
+use crate::{Outcome, line_of, run};
+use ck_io::{MemShelf, MemSink, OpenGate};
+use ck_script::Why;
+use std::alloc::{AllocError, Global};
+use std::sync::Wait;
+use std::test::Fail;
+use std::thread::Threads;
+
+// Runs words over files, and gives the outcome and what the sink took.
+fn ran<R: Threads + Wait + Sync>(
+    rt: &R,
+    alloc: Global,
+    words: &[&str],
+    files: Vec<(String, Vec<u8>)>,
+    shelf_fails: Vec<u64>,
+    most: u64,
+    sink_fails: Vec<u64>,
+) -> Result<(Outcome, Vec<u8>), AllocError>
+    requires { 1 ≤ most }
+{
+    let mut list = Vec::new(alloc);
+    for word in words {
+        list.push(String::from_str(alloc, word)?)?;
+    }
+    let mut shelf = MemShelf::new(files, shelf_fails);
+    let mut sink = MemSink::new(alloc, 4000000, most, sink_fails)?;
+    let outcome = run(rt, alloc, &list, &mut shelf, &mut sink, &OpenGate);
+    let taken = Vec::from_slice(alloc, sink.bytes())?;
+    Ok((outcome, taken))
+}
+
+// Files under one-letter names: u, q and r.
+fn shelved(alloc: Global, texts: &[&str]) -> Result<Vec<(String, Vec<u8>)>, AllocError> {
+    let mut files = Vec::new(alloc);
+    for (name, text) in ["u", "q", "r"].iter().zip(texts.iter()) {
+        files.push((
+            String::from_str(alloc, name)?,
+            Vec::from_slice(alloc, text.as_bytes())?,
+        ))?;
+    }
+    Ok(files)
+}
+
+// Scripts of one update file and of one or two query files, and what a run of them puts.
+const REPORTS: &[(&[&str], &str)] = &[
+    (&["", "get 7\n"], "q 1 1 7 absent\nend\n"),
+    (
+        &["set 7 10\n", "wait 1\nget 7\n"],
+        "u 1 fresh\nq 1 1 7 = 10\nt 7 = 10\nend\n",
+    ),
+    (
+        &["put 1 5\nput 1 6\ntidy\n", ""],
+        "u 1 fresh\nu 2 has 5\nu 3 tidied\nt 1 = 5\nend\n",
+    ),
+    (
+        &["del 9\nset 9 1\nset 9 1", ""],
+        "u 1 missing\nu 2 fresh\nu 3 was 1\nt 9 = 1\nend\n",
+    ),
+    (
+        &[
+            "set 18446744073709551616 5\nset 1 6\n",
+            "wait 2\nget 18446744073709551616\nget 1\n",
+        ],
+        "u 1 fresh\nu 2 fresh\nq 1 1 18446744073709551616 = 5\nq 1 2 1 = 6\nt 1 = 6\nt 18446744073709551616 = 5\nend\n",
+    ),
+];
+
+#[test]
+fn prints_reports(rt: HostRuntime) -> Result<(), Fail> {
+    let alloc = rt.alloc();
+    for (texts, report) in REPORTS {
+        let files = shelved(alloc, texts)?;
+        let (outcome, taken) = ran(
+            &rt,
+            alloc,
+            &["table", "u", "q"],
+            files,
+            Vec::new(alloc),
+            65536,
+            Vec::new(alloc),
+        )?;
+        assert_eq!(rt; outcome, Outcome::Done);
+        assert_eq!(rt; taken.as_slice(), report.as_bytes());
+    }
+    Ok(())
+}
+
+// Scripts that are refused, and how.
+const REFUSED: &[(&[&str], Outcome)] = &[
+    (
+        &["set 0 1\n", ""],
+        Outcome::BadScript {
+            file: 0,
+            line: 1,
+            why: Why::Key,
+        },
+    ),
+    (
+        &["set 1 1\n\nset 1 5\r\n", ""],
+        Outcome::BadScript {
+            file: 0,
+            line: 3,
+            why: Why::Number,
+        },
+    ),
+    (
+        &["set 1 1\n", "get 1\nget\n"],
+        Outcome::BadScript {
+            file: 1,
+            line: 2,
+            why: Why::Shape,
+        },
+    ),
+    (
+        &["set 1 1\nset 2 2\nset 3 3\n", "wait 4\n"],
+        Outcome::BadScript {
+            file: 1,
+            line: 1,
+            why: Why::Beyond,
+        },
+    ),
+    (
+        &["hold 1 1\n", "get 1\n"],
+        Outcome::BadScript {
+            file: 0,
+            line: 1,
+            why: Why::Verb,
+        },
+    ),
+    (&["set 1 1\n"], Outcome::ReadFault { file: 1 }),
+];
+
+#[test]
+fn refuses_with_the_cause(rt: HostRuntime) -> Result<(), Fail> {
+    let alloc = rt.alloc();
+    for (texts, refusal) in REFUSED {
+        let files = shelved(alloc, texts)?;
+        let (outcome, taken) = ran(
+            &rt,
+            alloc,
+            &["table", "u", "q"],
+            files,
+            Vec::new(alloc),
+            65536,
+            Vec::new(alloc),
+        )?;
+        assert_eq!(rt; outcome, *refusal);
+        assert!(rt; taken.is_empty());
+    }
+    let line = line_of(
+        alloc,
+        &Outcome::BadScript {
+            file: 0,
+            line: 1,
+            why: Why::Key,
+        },
+    )?;
+    assert_eq!(rt; line.as_str(), "lookup: file 0 line 1: key");
+    Ok(())
+}
+
+// Two query files, and the report of 88 bytes.
+const TWO: &[&str] = &[
+    "set 80 1\nset 443 2\ndel 80\n",
+    "wait 3\nget 80\nget 443\n",
+    "wait 3\nget 443\n",
+];
+
+const TWO_REPORT: &[u8] =
+    b"u 1 fresh\nu 2 fresh\nu 3 was 1\nq 1 1 80 absent\nq 1 2 443 = 2\nq 2 1 443 = 2\nt 443 = 2\nend\n";
+
+#[test]
+fn answers_two_files(rt: HostRuntime) -> Result<(), Fail> {
+    let alloc = rt.alloc();
+    for workers in ["--workers=1", "--workers=2", "--workers=16"] {
+        let files = shelved(alloc, TWO)?;
+        let words = ["table", workers, "u", "q", "r"];
+        let (outcome, taken) = ran(
+            &rt,
+            alloc,
+            &words,
+            files,
+            Vec::new(alloc),
+            65536,
+            Vec::new(alloc),
+        )?;
+        assert_eq!(rt; outcome, Outcome::Done);
+        assert_eq!(rt; taken.as_slice(), TWO_REPORT);
+    }
+    Ok(())
+}
+
+#[test]
+fn names_the_file_that_fails(rt: HostRuntime) -> Result<(), Fail> {
+    let alloc = rt.alloc();
+    for call in 1..4u64 {
+        let files = shelved(alloc, TWO)?;
+        let fails = vec![in alloc; call]?;
+        let (outcome, taken) = ran(
+            &rt,
+            alloc,
+            &["table", "u", "q", "r"],
+            files,
+            fails,
+            65536,
+            Vec::new(alloc),
+        )?;
+        assert_eq!(rt; outcome, Outcome::ReadFault { file: call - 1 });
+        assert!(rt; taken.is_empty());
+    }
+    Ok(())
+}
+
+// The sink takes 7 bytes a call: the report needs 13 calls, and each of them may fail.
+#[test]
+fn keeps_what_was_put_before_a_fault(rt: HostRuntime) -> Result<(), Fail> {
+    let alloc = rt.alloc();
+    for call in 1..15usize {
+        let files = shelved(alloc, TWO)?;
+        let fails = vec![in alloc; call as u64]?;
+        let (outcome, taken) = ran(
+            &rt,
+            alloc,
+            &["table", "u", "q", "r"],
+            files,
+            Vec::new(alloc),
+            7,
+            fails,
+        )?;
+        if call < 14 {
+            assert_eq!(rt; outcome, Outcome::WriteFault);
+            assert_eq!(rt; taken.as_slice(), &TWO_REPORT[..(call - 1) * 7]);
+        } else {
+            assert_eq!(rt; outcome, Outcome::Done);
+            assert_eq!(rt; taken.as_slice(), TWO_REPORT);
+        }
+    }
+    Ok(())
+}
+
+#[test]
+fn refuses_files_past_a_limit(rt: HostRuntime) -> Result<(), Fail> {
+    let alloc = rt.alloc();
+    for (byte, count) in [(b'#', 33554433usize), (b'\n', 1000001)] {
+        let mut files = Vec::new(alloc);
+        files.push((String::from_str(alloc, "u")?, vec![in alloc; byte; count]?))?;
+        let (outcome, taken) = ran(
+            &rt,
+            alloc,
+            &["table", "u", "q"],
+            files,
+            Vec::new(alloc),
+            65536,
+            Vec::new(alloc),
+        )?;
+        assert_eq!(rt; outcome, Outcome::TooLarge { file: 0 });
+        assert!(rt; taken.is_empty());
+    }
+    Ok(())
+}
+
+// 65,536 keys fill the table.
+#[test]
+fn fills_the_table(rt: HostRuntime) -> Result<(), Fail> {
+    let alloc = rt.alloc();
+    let mut text = String::new(alloc);
+    for k in 1..65537u32 {
+        text.push_str(format!(in alloc; "set {k} {k}\n")?.as_str())?;
+    }
+    text.push_str("set 70000 1\nset 1 9\n")?;
+    let files = shelved(alloc, &[text.as_str(), ""])?;
+    let (outcome, taken) = ran(
+        &rt,
+        alloc,
+        &["table", "u", "q"],
+        files,
+        Vec::new(alloc),
+        65536,
+        Vec::new(alloc),
+    )?;
+    assert_eq!(rt; outcome, Outcome::Done);
+    let report = String::from_utf8(taken)?;
+    assert!(rt;
+        report
+            .as_str()
+            .contains("\nu 65537 full\nu 65538 was 1\nt 1 = 9\nt 2 = 2\n")
+    );
+    assert!(rt; report.as_str().ends_with("\nt 65536 = 65536\nend\n"));
+    Ok(())
+}

@@ -1,0 +1,5 @@
+pub mod EntryBlocks
+pub mod NameBytes
+pub mod OddStrides
+pub mod SlotOrder
+pub mod WordBytes

@@ -1,0 +1,8 @@
+pub mod Cutting
+pub mod Words
+pub mod Runs
+pub mod Listing
+pub mod Gathering
+pub mod Stepping
+pub mod Faults
+pub mod FirstLine

@@ -1,0 +1,199 @@
+-- Lists of lines, each of which may follow the one before it.
+use Rattle.std.proofs.Common.{◌≡◌, ℕ, ◌+◌, ◌<◌, ◌≤◌, ◌^◌, inl, inr, Bool, true, ◌&&◌, ltb, Option, Some, None, List, [], ◌∷◌, ◌++◌, length, map, refl, ap, arith, sym, ◌∙◌, subst, append_assoc, codes, decimal, lit≤}
+use Rattle.std.specs.declared.cmp.Ordering.{Ordering}
+use Rattle.std.specs.List.{AllByRecursion, join_with_byte}
+use Rattle.std.proofs.lemmas.Bool.{ltb-true, and_parts}
+use Rattle.std.proofs.lemmas.Fmt.{decimal_injective}
+use Rattle.ck_history.specs.declared.update.Reply.{Reply}
+use Rattle.ck_history.specs.declared.update.Reply.TheVariants.{Fresh, Was, Has, Missing, Tidied, Full}
+use Rattle.ck_script.specs.Text.{words, IsWord}
+use Rattle.ck_script.specs.Keys.{decimal_one_word}
+use Rattle.ck_report.specs.declared.line.ReportLine.{ReportLine}
+use Rattle.ck_report.specs.declared.line.ReportLine.TheVariants.{Update, Answer, Pair, End}
+use Rattle.ck_report.specs.declared.place.Place.{Place}
+use Rattle.ck_report.specs.declared.place.Place.TheVariants.{AfterUpdate, AfterAnswer, AfterPair, AfterEnd}
+use Rattle.ck_report.specs.Text.{line, reply_words, found_words}
+use Rattle.ck_report.specs.Reports.{text_lines, IsReply, IsFound}
+use Rattle.ck_report.specs.Lines.{place_of, IsShort, IsTaken, Next, line_words, CanFollow}
+use Rattle.ck_report.proofs.Words.{first_byte}
+use Rattle.ck_report.proofs.Cutting.{words_joined, joined_lacks_feed, text_lines_first, same_before}
+
+-- the bytes of a line
+abbrev pub chunk : {K : Type 0} → (K → List ℕ) → ReportLine K → List ℕ
+chunk spelling said = line (line_words spelling said)
+
+-- the text of lines
+abbrev pub text_of : {K : Type 0} → (K → List ℕ) → List (ReportLine K) → List ℕ
+text_of spelling [] = []
+text_of spelling (said ∷ more) = chunk spelling said ++ text_of spelling more
+
+-- the place after lines that begin at a place
+abbrev pub last_place : {K : Type 0} → Place K → List (ReportLine K) → Place K
+last_place p [] = p
+last_place p (said ∷ more) = last_place (place_of said) more
+
+-- each line may stand where it stands
+abbrev pub Runs : {K : Type 0} → (K → Type 0) → (K → K → Ordering) → Place K → List (ReportLine K) → Type 0
+Runs IsKey cmp p [] = Unit {0}
+Runs IsKey cmp p (said ∷ more) = Next cmp p (place_of said) × IsTaken IsKey said × Runs IsKey cmp (place_of said) more
+
+-- the numbers of a place are at most n
+abbrev pub IsNear : {K : Type 0} → ℕ → Place K → Type 0
+IsNear n (AfterUpdate i) = i ≤ n
+IsNear n (AfterAnswer f i) = (f ≤ 64) × (i ≤ n)
+IsNear n (AfterPair key) = Unit {0}
+IsNear n AfterEnd = Unit {0}
+
+near_next : {K : Type 0} (cmp : K → K → Ordering) (n : ℕ) (p q : Place K) → IsNear n p → Next cmp p q → IsNear (n + 1) q
+near_next cmp n (AfterUpdate i) (AfterUpdate j) near next = omega arith
+near_next cmp n (AfterUpdate i) (AfterAnswer f j) near next = (next.1, omega arith)
+near_next cmp n (AfterAnswer g i) (AfterUpdate j) near next = absurd next
+near_next cmp n (AfterAnswer g i) (AfterAnswer f j) near (inl next) = (omega arith, omega arith)
+near_next cmp n (AfterAnswer g i) (AfterAnswer f j) near (inr next) = (next.1, omega arith)
+near_next cmp n (AfterPair key) (AfterUpdate j) near next = absurd next
+near_next cmp n (AfterPair key) (AfterAnswer f j) near next = absurd next
+near_next cmp n AfterEnd (AfterUpdate j) near next = absurd next
+near_next cmp n AfterEnd (AfterAnswer f j) near next = absurd next
+near_next cmp n p (AfterPair key) near next = tt
+near_next cmp n p AfterEnd near next = tt
+
+near_short : {K : Type 0} (n : ℕ) (said : ReportLine K) → IsNear n (place_of said) → n < 2 ^ 64 → IsShort said
+near_short n (Update i reply) near small = omega arith
+near_short n (Answer f i asked) near small = (omega arith, omega arith)
+near_short n (Pair key v) near small = tt
+near_short n End near small = tt
+
+-- a word of bytes above a space, by a test
+abbrev is_word : List ℕ → Bool
+is_word [] = true
+is_word (b ∷ w) = ltb 32 b && is_word w
+
+word_from : (w : List ℕ) → is_word w ≡ true → IsWord w
+word_from [] e = tt
+word_from (b ∷ w) e =
+    let both = and_parts (ltb 32 b) (is_word w) e in
+    let above : 32 < b = ltb-true 32 b both.0 in
+    ((λ e. omega arith, λ e. omega arith), word_from w both.1)
+
+number_word : (n : ℕ) → n < 2 ^ 64 → IsWord (decimal n)
+number_word n small = let le : 2 ^ 64 ≤ 2 ^ 128 = lit≤ tt in decimal_one_word n (omega arith)
+
+reply_are_words : (r : Reply) → IsReply r → AllByRecursion IsWord (reply_words r)
+reply_are_words Fresh fits = (word_from (codes "fresh") refl, tt)
+reply_are_words (Was v) fits = (word_from (codes "was") refl, (number_word v fits, tt))
+reply_are_words (Has v) fits = (word_from (codes "has") refl, (number_word v fits, tt))
+reply_are_words Missing fits = (word_from (codes "missing") refl, tt)
+reply_are_words Tidied fits = (word_from (codes "tidied") refl, tt)
+reply_are_words Full fits = (word_from (codes "full") refl, tt)
+
+found_are_words : (f : Option ℕ) → IsFound f → AllByRecursion IsWord (found_words f)
+found_are_words (Some v) fits = (word_from (codes "=") refl, (number_word v fits, tt))
+found_are_words None fits = (word_from (codes "absent") refl, tt)
+
+module _ {K : Type 0} (IsKey : K → Type 0) (spelling : K → List ℕ) (cmp : K → K → Ordering) (one_key : (j k : K) → IsKey j → IsKey k → spelling j ≡ spelling k → j ≡ k) (one_word : (k : K) → IsKey k → IsWord (spelling k)) where
+  pub line_are_words : (said : ReportLine K) → IsTaken IsKey said → IsShort said → AllByRecursion IsWord (line_words spelling said)
+  line_are_words (Update i reply) taken short = (word_from (codes "u") refl, (number_word i short, reply_are_words reply taken))
+  line_are_words (Answer f i asked) taken short = (word_from (codes "q") refl, (number_word f short.0, (number_word i short.1, (one_word asked.key taken.0, found_are_words asked.found taken.1))))
+  line_are_words (Pair key v) taken short = (word_from (codes "t") refl, (one_word key taken.0, (word_from (codes "=") refl, (number_word v taken.1, tt))))
+  line_are_words End taken short = (word_from (codes "end") refl, tt)
+
+  some_words : (said : ReportLine K) → 0 < length (line_words spelling said)
+  some_words (Update i reply) = omega arith
+  some_words (Answer f i asked) = omega arith
+  some_words (Pair key v) = omega arith
+  some_words End = omega arith
+
+  -- lines of the same words lead to the same place
+  pub same_place : (said other : ReportLine K) → IsTaken IsKey said → IsTaken IsKey other → IsShort said → IsShort other → line_words spelling said ≡ line_words spelling other → place_of said ≡ place_of other
+  same_place (Update i r) (Update j s) ti tj si sj e = ap AfterUpdate (decimal_injective i j si sj (cc))
+  same_place (Update i r) (Answer g j b) ti tj si sj e = absurd (omega (arith, ap first_byte e))
+  same_place (Update i r) (Pair l w) ti tj si sj e = absurd (omega (arith, ap first_byte e))
+  same_place (Update i r) End ti tj si sj e = absurd (omega (arith, ap first_byte e))
+  same_place (Answer f i a) (Update j s) ti tj si sj e = absurd (omega (arith, ap first_byte e))
+  same_place (Answer f i a) (Answer g j b) ti tj si sj e =
+      let files : f ≡ g = decimal_injective f g si.0 sj.0 (cc) in
+      let numbers : i ≡ j = decimal_injective i j si.1 sj.1 (cc) in
+      cc
+  same_place (Answer f i a) (Pair l w) ti tj si sj e = absurd (omega (arith, ap first_byte e))
+  same_place (Answer f i a) End ti tj si sj e = absurd (omega (arith, ap first_byte e))
+  same_place (Pair k v) (Update j s) ti tj si sj e = absurd (omega (arith, ap first_byte e))
+  same_place (Pair k v) (Answer g j b) ti tj si sj e = absurd (omega (arith, ap first_byte e))
+  same_place (Pair k v) (Pair l w) ti tj si sj e = ap AfterPair (one_key k l ti.0 tj.0 (cc))
+  same_place (Pair k v) End ti tj si sj e = absurd (omega (arith, ap first_byte e))
+  same_place End (Update j s) ti tj si sj e = absurd (omega (arith, ap first_byte e))
+  same_place End (Answer g j b) ti tj si sj e = absurd (omega (arith, ap first_byte e))
+  same_place End (Pair l w) ti tj si sj e = absurd (omega (arith, ap first_byte e))
+  same_place End End ti tj si sj e = refl
+
+  -- a line is cut at its line feed
+  pub first_line : (said : ReportLine K) (rest : List ℕ) → IsTaken IsKey said → IsShort said → text_lines (chunk spelling said ++ rest) ≡ chunk spelling said ∷ text_lines rest
+  first_line said rest taken short =
+      let ws = line_words spelling said in
+      let joined = join_with_byte 32 ws in
+      let apart : (joined ++ 10 ∷ []) ++ rest ≡ joined ++ 10 ∷ rest = append_assoc joined (10 ∷ []) rest in
+      ap text_lines apart ∙ text_lines_first joined rest (joined_lacks_feed ws (line_are_words said taken short))
+
+  -- the words of a line that is taken
+  pub taken_words : (said : ReportLine K) (bytes : List ℕ) → IsTaken IsKey said → IsShort said → bytes ++ 10 ∷ [] ≡ chunk spelling said → words bytes ≡ line_words spelling said
+  taken_words said bytes taken short e =
+      let ws = line_words spelling said in
+      ap words (same_before bytes (join_with_byte 32 ws) 10 e) ∙ words_joined ws (line_are_words said taken short) (some_words said)
+
+  same_words : (said other : ReportLine K) → IsTaken IsKey said → IsTaken IsKey other → IsShort said → IsShort other → chunk spelling said ≡ chunk spelling other → line_words spelling said ≡ line_words spelling other
+  same_words said other ti tj si sj e =
+      let ws = line_words spelling said in
+      sym (words_joined ws (line_are_words said ti si) (some_words said)) ∙ taken_words other (join_with_byte 32 ws) tj sj e
+
+  -- what stands after lines that two lists share
+  pub record After (p : Place K) (ls ms : List (ReportLine K)) (tail : List (List ℕ)) : Type 0 where
+    pub rest : List (ReportLine K)
+    pub runs : Runs IsKey cmp (last_place p ls) rest
+    pub lines : text_lines (text_of spelling rest) ≡ tail
+    pub last : last_place p ms ≡ last_place (last_place p ls) rest
+
+  pub after : (n : ℕ) (p : Place K) (ls ms : List (ReportLine K)) (tail : List (List ℕ)) → IsNear n p → n + length ls < 2 ^ 64 → Runs IsKey cmp p ls → Runs IsKey cmp p ms → text_lines (text_of spelling ms) ≡ map (chunk spelling) ls ++ tail → After p ls ms tail
+  after n p [] ms tail near small hl hm e = record { rest = ms; runs = hm; lines = e; last = refl }
+  after n p (l ∷ ls) [] tail near small hl hm e = absurd (cc)
+  after n p (l ∷ ls) (m ∷ ms) tail near small hl hm e =
+      let near_l = near_next cmp n p (place_of l) near hl.0 in
+      let near_m = near_next cmp n p (place_of m) near hm.0 in
+      let short_l = near_short (n + 1) l near_l (omega arith) in
+      let short_m = near_short (n + 1) m near_m (omega arith) in
+      let both : chunk spelling m ∷ text_lines (text_of spelling ms) ≡ chunk spelling l ∷ (map (chunk spelling) ls ++ tail) = sym (first_line m (text_of spelling ms) hm.1 short_m) ∙ e in
+      let heads : chunk spelling m ≡ chunk spelling l = cc in
+      let tails : text_lines (text_of spelling ms) ≡ map (chunk spelling) ls ++ tail = cc in
+      let place : place_of m ≡ place_of l = same_place m l hm.1 hl.1 short_m short_l (same_words m l hm.1 hl.1 short_m short_l heads) in
+      let later = after (n + 1) (place_of l) ls ms tail near_l (omega arith) hl.2 (subst (λ q. Runs IsKey cmp q ms) place hm.2) tails in
+      record { rest = later.rest; runs = later.runs; lines = later.lines; last = ap (λ q. last_place q ms) place ∙ later.last }
+
+  pub near_last : (n : ℕ) (p : Place K) (ls : List (ReportLine K)) → IsNear n p → Runs IsKey cmp p ls → IsNear (n + length ls) (last_place p ls)
+  near_last n p [] near runs = subst (λ m. IsNear m p) (omega arith) near
+  near_last n p (l ∷ ls) near runs =
+      let later = near_last (n + 1) (place_of l) ls (near_next cmp n p (place_of l) near runs.0) runs.2 in
+      subst (λ m. IsNear m (last_place (place_of l) ls)) (omega arith) later
+
+  -- the first line of a list, by its bytes
+  pub first_of : (n : ℕ) (p : Place K) (ms : List (ReportLine K)) (x : List ℕ) (later : List (List ℕ)) → IsNear n p → n + 1 < 2 ^ 64 → Runs IsKey cmp p ms → text_lines (text_of spelling ms) ≡ x ∷ later → (said : ReportLine K) × CanFollow IsKey cmp p said × (x ≡ chunk spelling said)
+  first_of n p [] x later near small runs e = absurd (cc)
+  first_of n p (m ∷ ms) x later near small runs e =
+      let short = near_short (n + 1) m (near_next cmp n p (place_of m) near runs.0) small in
+      let same : chunk spelling m ∷ text_lines (text_of spelling ms) ≡ x ∷ later = sym (first_line m (text_of spelling ms) runs.1 short) ∙ e in
+      (m, record { taken = runs.1; short = short; next = runs.0 }, cc)
+
+  -- lines are cut as they are
+  pub lines_of_runs : (n : ℕ) (p : Place K) (ls : List (ReportLine K)) (rest : List ℕ) → IsNear n p → n + length ls < 2 ^ 64 → Runs IsKey cmp p ls → text_lines (text_of spelling ls ++ rest) ≡ map (chunk spelling) ls ++ text_lines rest
+  lines_of_runs n p [] rest near small runs = refl
+  lines_of_runs n p (l ∷ ls) rest near small runs =
+      let near_l = near_next cmp n p (place_of l) near runs.0 in
+      let short = near_short (n + 1) l near_l (omega arith) in
+      ap text_lines (append_assoc (chunk spelling l) (text_of spelling ls) rest)
+      ∙ (first_line l (text_of spelling ls ++ rest) runs.1 short
+      ∙ ap (λ more. chunk spelling l ∷ more) (lines_of_runs (n + 1) (place_of l) ls rest near_l (omega arith) runs.2))
+
+  -- a list with no bytes is empty
+  pub nothing_left : (n : ℕ) (p : Place K) (ms : List (ReportLine K)) → IsNear n p → n + 1 < 2 ^ 64 → Runs IsKey cmp p ms → text_lines (text_of spelling ms) ≡ [] → last_place p ms ≡ p
+  nothing_left n p [] near small runs e = refl
+  nothing_left n p (m ∷ ms) near small runs e =
+      let short = near_short (n + 1) m (near_next cmp n p (place_of m) near runs.0) small in
+      let same : chunk spelling m ∷ text_lines (text_of spelling ms) ≡ [] = sym (first_line m (text_of spelling ms) runs.1 short) ∙ e in
+      absurd (cc)

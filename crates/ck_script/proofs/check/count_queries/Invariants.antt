@@ -1,0 +1,10 @@
+use Rattle.std.proofs.Common.{◌≡◌, length, drop, ◌+◌, ◌≤◌}
+use Rattle.ck_script.specs.Script.{said_of, queries}
+use Rattle.ck_script.proofs.check.count_queries.Given as goal
+
+-- the queries so far and those that are left
+abbrev pub invariant-loop-line : goal.invariant-loop-line
+invariant-loop-line g l = record {
+  all : l.n + length (queries 0 (said_of (drop l.line-index l.lines))) ≡ length (queries 0 (said_of l.lines));
+  room : l.n ≤ l.line-index;
+}

@@ -1,0 +1,13 @@
+use Rattle.std.proofs.Common.{◌≡◌, ◌≤◌, length, map}
+use Rattle.std.specs.List.{position_or_len}
+use Rattle.ck_script.specs.Script.{said_of}
+use Rattle.ck_script.specs.Checks.{placed}
+use Rattle.ck_script.proofs.Circles.{is_circle_within}
+use Rattle.ck_script.proofs.circle.check_circles.Given as goal
+
+-- the first line that is a circle with one of the files so far
+abbrev pub invariant-loop-i : goal.invariant-loop-i
+invariant-loop-i g l = record {
+  first : l.end ≡ position_or_len (λ x. is_circle_within l.i (map said_of (map (λ file. file.items) l.asks)) x.0 x.1.what) (placed 0 l.ups);
+  within : l.end ≤ length l.ups;
+}

@@ -1,0 +1,154 @@
+use super::*;
+use ck_history::{Key, Update};
+use std::test::Fail;
+
+// The fault of what was read, if it has one. There is ample memory.
+fn fault_of<T: Drop>(read: Result<T, ScriptError>) -> Result<Option<(u64, Why)>, Fail> {
+    match read {
+        Ok(_) => Ok(None),
+        Err(ScriptError::Fault(fault)) => Ok(Some((fault.line, fault.why))),
+        Err(error) => Err(error)?,
+    }
+}
+
+#[test]
+fn the_first_fault_of_update_files(rt: HostRuntime) -> Result<(), Fail> {
+    let cases = [
+        ("", None),
+        ("set 1 2", None),
+        ("set 18446744073709551615 18446744073709551615\n", None),
+        ("set 18446744073709551616 0", None),
+        ("set 340282366920938463463374607431768211454 1", None),
+        ("set 340282366920938463463374607431768211455 1", Some((1, Why::Key))),
+        ("set 340282366920938463463374607431768211456 1", Some((1, Why::Number))),
+        ("set 0 1", Some((1, Why::Key))),
+        ("set 1 18446744073709551616", Some((1, Why::Number))),
+        ("del 07", Some((1, Why::Number))),
+        ("set 1 00", Some((1, Why::Number))),
+        ("set 1 2\nset", Some((2, Why::Shape))),
+        ("set  1 2", Some((1, Why::Shape))),
+        ("put 1 2 ", Some((1, Why::Shape))),
+        ("tidy ", Some((1, Why::Shape))),
+        ("put x", Some((1, Why::Shape))),
+        ("put 0 x", Some((1, Why::Key))),
+        ("put x 1", Some((1, Why::Number))),
+        ("set 1 2\r\n", Some((1, Why::Number))),
+        ("set 1 2\n\r\n", Some((2, Why::Verb))),
+        (" tidy", Some((1, Why::Verb))),
+        ("hold 1 1", Some((1, Why::Verb))),
+        ("\n# set\n\nset 1 2\n#\ndel\nget 1", Some((6, Why::Shape))),
+    ];
+    for (text, want) in cases {
+        let got = fault_of(read_updates::<Key>(rt.alloc(), text.as_bytes()))?;
+        assert_eq!(rt; got, want, "{text}");
+    }
+    Ok(())
+}
+
+#[test]
+fn the_first_fault_of_query_files(rt: HostRuntime) -> Result<(), Fail> {
+    let cases = [
+        ("get 1\nwait 0\nwait 18446744073709551615", None),
+        ("wait 18446744073709551616", Some((1, Why::Number))),
+        ("wait", Some((1, Why::Shape))),
+        ("get 0", Some((1, Why::Key))),
+        ("get 1 2", Some((1, Why::Shape))),
+        ("#\n\nget 1\ntidy", Some((4, Why::Verb))),
+    ];
+    for (text, want) in cases {
+        let got = fault_of(read_queries::<Key>(rt.alloc(), text.as_bytes()))?;
+        assert_eq!(rt; got, want, "{text}");
+    }
+    Ok(())
+}
+
+#[test]
+fn each_prefix_of_an_update_file(rt: HostRuntime) -> Result<(), Fail> {
+    let bytes = b"set 80 1\nset 443 2\ndel 80\n".as_slice();
+    let lawful = [0, 8, 9, 18, 19, 24, 25, 26];
+    let verbs = [1, 2, 10, 11, 20, 21];
+    let numbers = [7, 17, 23];
+    for length in 0..bytes.len() + 1 {
+        let line = if length < 10 { 1 } else if length < 20 { 2 } else { 3 };
+        let want = if lawful.contains(&length) {
+            None
+        } else if verbs.contains(&length) {
+            Some((line, Why::Verb))
+        } else if numbers.contains(&length) {
+            Some((line, Why::Number))
+        } else {
+            Some((line, Why::Shape))
+        };
+        let got = fault_of(read_updates::<Key>(rt.alloc(), &bytes[..length]))?;
+        assert_eq!(rt; got, want, "{length} bytes");
+    }
+    Ok(())
+}
+
+#[test]
+fn lines_have_their_numbers_and_keys_their_words(rt: HostRuntime) -> Result<(), Fail> {
+    let key = Key::new(18446744073709551616).ok_or("key")?;
+    let said = read_updates::<Key>(rt.alloc(), b"\n# 1\nset 18446744073709551616 2\n\ntidy".as_slice())?;
+    let want = [
+        Numbered { line: 3, what: UpLine::Call(Update::Set(key, 2)) },
+        Numbered { line: 5, what: UpLine::Call(Update::Tidy) },
+    ];
+    assert_eq!(rt; said.as_slice(), want.as_slice());
+    let mut word = Vec::new(rt.alloc());
+    key.print_word(&mut word)?;
+    assert_eq!(rt; word.as_slice(), b"18446744073709551616".as_slice());
+    Ok(())
+}
+
+#[test]
+fn lines_that_ask_for_too_much(rt: HostRuntime) -> Result<(), Fail> {
+    let set = UpLine::Call(7);
+    let hold = |file, n| UpLine::Hold { file, n };
+    let cases = [
+        // three updates and `wait 4`
+        ([set, set, set], [AskLine::Wait { n: 4 }, AskLine::Ask(1)], Some((1, 1)), None),
+        ([set, set, set], [AskLine::Ask(1), AskLine::Wait { n: 3 }], None, None),
+        ([set, hold(0, 0), set], [AskLine::Ask(1), AskLine::Ask(1)], Some((0, 2)), None),
+        ([set, hold(2, 0), set], [AskLine::Ask(1), AskLine::Ask(1)], Some((0, 2)), None),
+        ([hold(1, 2), set, hold(1, 3)], [AskLine::Ask(1), AskLine::Ask(1)], Some((0, 3)), None),
+        // `hold 1 1; set 1 10` with `wait 1; get 1`, and a later `hold`
+        ([hold(1, 1), set, hold(1, 1)], [AskLine::Wait { n: 1 }, AskLine::Ask(1)], None, Some((0, 1))),
+        ([hold(1, 0), set, hold(1, 1)], [AskLine::Wait { n: 1 }, AskLine::Ask(1)], None, None),
+        ([hold(1, 1), set, set], [AskLine::Ask(1), AskLine::Wait { n: 1 }], None, None),
+    ];
+    for (what, asked, range, circle) in cases {
+        let ups = [
+            Numbered { line: 1, what: what[0] },
+            Numbered { line: 2, what: what[1] },
+            Numbered { line: 3, what: what[2] },
+        ];
+        let file = [Numbered { line: 1, what: asked[0] }, Numbered { line: 2, what: asked[1] }].to_vec(rt.alloc())?;
+        let asks = [file];
+        assert_eq!(rt; check_ranges(ups.as_slice(), asks.as_slice()).map(|x| (x.file, x.line)), range);
+        if range.is_none() {
+            assert_eq!(rt; check_circles(ups.as_slice(), asks.as_slice()).map(|x| (x.file, x.line)), circle);
+        }
+    }
+    Ok(())
+}
+
+// `set 1 10; hold 1 2; set 1 20` with `wait 1; get 1; wait 2; get 1`
+#[test]
+fn a_hold_for_a_query_after_a_wait_for_more(rt: HostRuntime) -> Result<(), Fail> {
+    let ups = [
+        Numbered { line: 1, what: UpLine::Call(10) },
+        Numbered { line: 2, what: UpLine::Hold { file: 1, n: 2 } },
+        Numbered { line: 3, what: UpLine::Call(20) },
+    ];
+    let file = [
+        Numbered { line: 1, what: AskLine::Wait { n: 1 } },
+        Numbered { line: 2, what: AskLine::Ask(1) },
+        Numbered { line: 3, what: AskLine::Wait { n: 2 } },
+        Numbered { line: 4, what: AskLine::Ask(1) },
+    ]
+    .to_vec(rt.alloc())?;
+    let asks = [file];
+    assert_eq!(rt; check_ranges(ups.as_slice(), asks.as_slice()), None);
+    assert_eq!(rt; check_circles(ups.as_slice(), asks.as_slice()), Some(RangeFault { file: 0, line: 2 }));
+    Ok(())
+}
