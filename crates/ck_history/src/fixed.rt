@@ -53,15 +53,15 @@ impl<K: Ord + Copy> FixedBook<K> {
     }
 
     /// The reply that the update would get.
-    pub fn reply(&self, u: Update<K>) -> Reply
-        ensures { result ≡ (step K.cmp self.now.most self.now.pairs u).1 }
+    pub fn reply(&self, u: &Update<K>) -> Reply
+        ensures { result ≡ (step K.cmp self.now.most self.now.pairs u.now).1 }
     {
         let absent = if (self.pairs.len() as u64) < self.most {
             Reply::Fresh
         } else {
             Reply::Full
         };
-        match u {
+        match *u {
             Update::Set(key, _) => self.find(&key).map_or(absent, Reply::Was),
             Update::Put(key, _) => self.find(&key).map_or(absent, Reply::Has),
             Update::Del(key) => self.find(&key).map_or(Reply::Missing, Reply::Was),
@@ -103,7 +103,7 @@ mod tests {
         ];
         let mut book: FixedBook<u64> = FixedBook::new(rt.alloc(), 1)?;
         for (update, reply) in cases {
-            assert_eq!(rt; book.reply(update), reply);
+            assert_eq!(rt; book.reply(&update), reply);
             assert_eq!(rt; book.apply(update), reply);
         }
         assert_eq!(rt; book.pairs(), [(4, 2)].as_slice());
