@@ -1,5 +1,5 @@
 -- Each ruled step keeps the rule of the two copies.
-use Rattle.std.proofs.Common.{◌≡◌, ℕ, ◌+◌, ◌≢◌, ◌⊎◌, List, [], ◌∷◌, ◌++◌, map, set, Option, Some, None, refl, sym, ap, subst, ◌∙◌, ⊎_elim}
+use Rattle.std.proofs.Common.{◌≡◌, ℕ, ◌≢◌, List, [], ◌∷◌, ◌++◌, set, Option, Some, None, refl, sym, ap, subst, ◌∙◌, ⊎_elim}
 use Rattle.std.specs.Ordering.{nat_cmp}
 use mathlib.Core.Option.{some}
 use lib.ListN.{get_elem?}
@@ -14,7 +14,7 @@ use Rattle.ck_snap.specs.declared.version.Version.{Version}
 use Rattle.ck_snap.specs.declared.snapshot.Snapshot.{Snapshot}
 use Rattle.ck_snap.specs.declared.rule.View.{View}
 use Rattle.ck_snap.specs.Log.{Log, capacity, updates, map_after, page_after}
-use Rattle.ck_snap.specs.Version.{log_of, book_of, last_of, Precedes, Follows, page_with}
+use Rattle.ck_snap.specs.Version.{log_of, last_of, Precedes, Follows, page_with}
 use Rattle.ck_snap.specs.Copies.{Keeps, Shows, newcomer, seeing, snapshot_of}
 use Rattle.ck_snap.proofs.Prefixes.{prefix_self, prefix_trans}
 

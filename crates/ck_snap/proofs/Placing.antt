@@ -1,5 +1,5 @@
 -- The places of a pass's answers stay as they are when it sees more, and the next answer's is the greatest.
-use Rattle.std.proofs.Common.{◌≡◌, ℕ, ◌≤◌, max, List, [], ◌∷◌, ◌++◌, length, take, map, refl, sym, ap, subst, ◌∙◌, arith, le_refl, le_trans}
+use Rattle.std.proofs.Common.{◌≡◌, ℕ, ◌≤◌, max, List, [], ◌∷◌, ◌++◌, length, take, refl, sym, ap, ◌∙◌, arith, le_trans}
 use Rattle.std.proofs.lemmas.List.{take-append-le, length-map, map-append}
 use Rattle.std.proofs.Math.Seq.{take-length}
 use Rattle.std.specs.Ordering.{nat_cmp}
@@ -7,8 +7,7 @@ use Rattle.std.specs.declared.result.Result.TheVariants.{Ok, Err}
 use mathlib.Core.List.{IsPrefix}
 use Rattle.ck_history.specs.declared.log.LogEntry.{LogEntry}
 use Rattle.ck_history.specs.declared.log.Placed.{Placed}
-use Rattle.ck_history.specs.declared.update.Update.{Update}
-use Rattle.ck_history.specs.Map.{find, after, after_from}
+use Rattle.ck_history.specs.Map.{find, after_from}
 use Rattle.ck_snap.specs.declared.journal.Deed.{Deed}
 use Rattle.ck_snap.specs.declared.journal.Deed.TheVariants.{Updated, Told, Answered, Reached}
 use Rattle.ck_snap.specs.Log.{Log, capacity, updates, map_after}

@@ -2,7 +2,6 @@
 use Rattle.std.specs.Prelude.{◌≡◌, ℕ, ◌≤◌, max, List, [], ◌∷◌, length}
 use Rattle.std.specs.Ordering.{nat_cmp}
 use Rattle.std.specs.declared.result.Result.TheVariants.{Ok, Err}
-use Rattle.ck_history.specs.declared.log.LogEntry.{LogEntry}
 use Rattle.ck_history.specs.declared.log.Placed.{Placed}
 use Rattle.ck_history.specs.Map.{find, after}
 use Rattle.ck_snap.specs.declared.journal.Deed.{Deed}

@@ -4,7 +4,6 @@ use mathlib.Core.List.{IsPrefix}
 use Rattle.std.specs.Ordering.{nat_cmp}
 use Rattle.atomic_table.specs.Seated.{TableId}
 use Rattle.logbook.specs.Pages.{Book}
-use Rattle.ck_history.specs.declared.log.LogEntry.{LogEntry}
 use Rattle.ck_history.specs.declared.log.Look.{Look}
 use Rattle.ck_history.specs.declared.log.Look.TheVariants.{Found, Absent}
 use Rattle.ck_history.specs.declared.log.Placed.{Placed}
@@ -12,7 +11,7 @@ use Rattle.ck_history.specs.declared.update.Update.{Update}
 use Rattle.ck_history.specs.declared.update.Reply.{Reply}
 use Rattle.ck_history.specs.Map.{find, step}
 use Rattle.ck_snap.specs.declared.journal.Deed.{Deed}
-use Rattle.ck_snap.specs.declared.journal.Deed.TheVariants.{Updated, Answered}
+use Rattle.ck_snap.specs.declared.journal.Deed.TheVariants.{Updated}
 use Rattle.ck_snap.specs.Log.{Log, capacity, map_after}
 use Rattle.ck_snap.specs.Places.{updates_of, answers_of, ArePlaced}
 

@@ -1,5 +1,5 @@
 //! A reader's end of the two copies.
-ghost use Rattle.std.specs.Prelude.{◌≡◌, ◌+◌, Some};
+ghost use Rattle.std.specs.Prelude.{◌≡◌, ◌+◌, ◌<◌, Some};
 ghost use Rattle.std.specs.Ordering.{nat_cmp};
 ghost use mathlib.Core.List.{IsPrefix};
 ghost use Rattle.left_right.specs.Sides.{view};
@@ -127,5 +127,23 @@ impl Subscriber {
         let (version, found) = look_through(rt, &mut self.reader, key);
         self.version = version;
         found
+    }
+
+    /// Enters until it sees this version.
+    pub fn catch_up<R: Wait>(&mut self, rt: &R, version: &Version)
+        requires { self.old.book ≡ book_of version.now }
+        ensures end { self.new ≡ record self.old { log = log_of version.now; enters = self.new.enters } }
+        ensures later { IsPrefix self.old.log (log_of version.now) }
+        ensures enters { self.old.enters < self.new.enters }
+    {
+        let backoff = Backoff::new();
+        for _ in rt.forever() {
+            self.see(rt);
+            if self.version().agrees(version) {
+                return;
+            }
+            backoff.snooze();
+        }
+        unreachable!()
     }
 }
