@@ -1,22 +1,21 @@
 -- Each ruled step keeps the rule of the two copies.
 use Rattle.std.proofs.Common.{◌≡◌, ℕ, ◌≢◌, List, [], ◌∷◌, ◌++◌, set, Option, Some, None, refl, sym, ap, subst, ◌∙◌, ⊎_elim}
-use Rattle.std.specs.Ordering.{nat_cmp}
 use mathlib.Core.Option.{some}
 use lib.ListN.{get_elem?}
 use Rattle.left_right.specs.Register.{Admits, Turns, TurnsAt, Forks, Merges}
-use Rattle.std.proofs.lemmas.List.{append-nil, map-append}
+use Rattle.std.proofs.lemmas.List.{append-nil}
 use Rattle.atomic_table.proofs.Lists.{at_set, at_snoc}
 use Rattle.ck_history.specs.declared.log.LogEntry.{LogEntry}
-use Rattle.ck_history.specs.declared.update.Update.{Update}
-use Rattle.ck_history.specs.Map.{Map, step, after_from}
+use Rattle.ck_history.specs.Map.{Map}
 use Rattle.ck_history.specs.Page.{Page}
 use Rattle.ck_snap.specs.declared.version.Version.{Version}
 use Rattle.ck_snap.specs.declared.snapshot.Snapshot.{Snapshot}
 use Rattle.ck_snap.specs.declared.rule.View.{View}
-use Rattle.ck_snap.specs.Log.{Log, capacity, updates, map_after, page_after}
+use Rattle.ck_snap.specs.Log.{Log, capacity, page_after}
 use Rattle.ck_snap.specs.Version.{log_of, last_of, Precedes, Follows, page_with}
 use Rattle.ck_snap.specs.Copies.{Keeps, Shows, newcomer, seeing, snapshot_of}
 use Rattle.ck_snap.proofs.Prefixes.{prefix_self, prefix_trans}
+use Rattle.ck_snap.proofs.Replying.{map_after-snoc}
 
 precedes_self : (v : Version) → Precedes (Some v) v
 precedes_self v = (refl, prefix_self (log_of v))
@@ -53,18 +52,10 @@ turns_to seat v x y up fold views h at =
 pub enters : (seat : ℕ) (v : View) → Turns (λ x views. Keeps x views) seat v (λ x. x) (λ v x y w. Shows v y w)
 enters seat v x = turns_to seat v x x (precedes_self x.version) (λ p. p)
 
--- the map after one more update
-after_from-append : (m : Map ℕ) (us vs : List (Update ℕ)) → after_from nat_cmp capacity m (us ++ vs) ≡ after_from nat_cmp capacity (after_from nat_cmp capacity m us) vs
-after_from-append m [] vs = refl
-after_from-append m (u ∷ us) vs = after_from-append (step nat_cmp capacity m u).0 us vs
-
+-- a page after one more update
 page_after-append : (log : Log) (last : Option (LogEntry ℕ)) → page_with (page_after log) last ≡ page_after (log ++ last_of last)
 page_after-append log None = ap page_after (sym (append-nil log))
-page_after-append log (Some e) =
-    let whole : updates (log ++ e ∷ []) ≡ updates log ++ e.update ∷ [] = map-append (λ (e : LogEntry ℕ). e.update) log (e ∷ []) in
-    let m : map_after (log ++ e ∷ []) ≡ (step nat_cmp capacity (map_after log) e.update).0 = ap (after_from nat_cmp capacity []) whole ∙ after_from-append [] (updates log) (e.update ∷ []) in
-    let page : Map ℕ → Page ℕ = λ l. record { most = capacity; pairs = l } in
-    ap page (sym m)
+page_after-append log (Some e) = let page : Map ℕ → Page ℕ = λ l. record { most = capacity; pairs = l } in ap page (sym (map_after-snoc log e))
 
 -- a publish of a version that follows the one that was shown
 pub publishes : (seat : ℕ) (v : View) (shown : Snapshot) (next : Version) → Follows shown.version next

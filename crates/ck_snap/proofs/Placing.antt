@@ -11,7 +11,7 @@ use Rattle.ck_history.specs.Map.{find, after_from}
 use Rattle.ck_snap.specs.declared.journal.Deed.{Deed}
 use Rattle.ck_snap.specs.declared.journal.Deed.TheVariants.{Updated, Told, Answered, Reached}
 use Rattle.ck_snap.specs.Log.{Log, capacity, updates, map_after}
-use Rattle.ck_snap.specs.Places.{updates_of, IsAnswer, ArePlaced}
+use Rattle.ck_snap.specs.Places.{updates_of, answers_of, IsAnswer, ArePlaced}
 use Rattle.ck_snap.proofs.Prefixes.{prefix_length}
 
 -- no place is above the length of the log
@@ -65,18 +65,17 @@ module _ (log more : Log) (pre : IsPrefix log more) (ds : List Deed) (h : ArePla
   pub placed_waits : (n count : ℕ) → ArePlaced more 0 (ds ++ Reached n (Err count) ∷ [])
   placed_waits n count = placed_snoc more 0 ds (Reached n (Err count)) (placed_later log more pre 0 ds h) (λ l below. below)
 
--- one more update
-pub updates_of-updated : (ds : List Deed) (e : LogEntry ℕ) → updates_of (ds ++ Updated e ∷ []) ≡ updates_of ds ++ e ∷ []
-updates_of-updated [] e = refl
-updates_of-updated (Answered a ∷ ds) e = updates_of-updated ds e
-updates_of-updated (Reached n r ∷ ds) e = updates_of-updated ds e
-updates_of-updated (Told r n ∷ ds) e = updates_of-updated ds e
-updates_of-updated (Updated u ∷ ds) e = ap (λ us. u ∷ us) (updates_of-updated ds e)
+-- the updates and the answers of two lists of deeds
+pub updates_of-append : (ds es : List Deed) → updates_of (ds ++ es) ≡ updates_of ds ++ updates_of es
+updates_of-append [] es = refl
+updates_of-append (Updated e ∷ ds) es = ap (λ l. e ∷ l) (updates_of-append ds es)
+updates_of-append (Told r n ∷ ds) es = updates_of-append ds es
+updates_of-append (Answered a ∷ ds) es = updates_of-append ds es
+updates_of-append (Reached n r ∷ ds) es = updates_of-append ds es
 
--- what was told of a reader is no update
-pub updates_of-told : (ds : List Deed) (r n : ℕ) → updates_of (ds ++ Told r n ∷ []) ≡ updates_of ds
-updates_of-told [] r n = refl
-updates_of-told (Answered a ∷ ds) r n = updates_of-told ds r n
-updates_of-told (Reached m o ∷ ds) r n = updates_of-told ds r n
-updates_of-told (Told s m ∷ ds) r n = updates_of-told ds r n
-updates_of-told (Updated u ∷ ds) r n = ap (λ us. u ∷ us) (updates_of-told ds r n)
+pub answers_of-append : (ds es : List Deed) → answers_of (ds ++ es) ≡ answers_of ds ++ answers_of es
+answers_of-append [] es = refl
+answers_of-append (Updated e ∷ ds) es = answers_of-append ds es
+answers_of-append (Told r n ∷ ds) es = answers_of-append ds es
+answers_of-append (Answered a ∷ ds) es = ap (λ l. a ∷ l) (answers_of-append ds es)
+answers_of-append (Reached n r ∷ ds) es = answers_of-append ds es

@@ -12,7 +12,7 @@ use Rattle.ck_history.specs.declared.update.Reply.{Reply}
 use Rattle.ck_history.specs.Map.{find, step}
 use Rattle.ck_snap.specs.declared.journal.Deed.{Deed}
 use Rattle.ck_snap.specs.declared.journal.Deed.TheVariants.{Updated}
-use Rattle.ck_snap.specs.Log.{Log, capacity, map_after}
+use Rattle.ck_snap.specs.Log.{Log, capacity, map_after, AreReplies}
 use Rattle.ck_snap.specs.Places.{updates_of, answers_of, ArePlaced}
 
 -- which dictionary something belongs to: that of this log and these journals
@@ -25,10 +25,11 @@ pub record Dictionary : Type 0 where
   pub origin : Origin
   pub readers : ℕ
 
--- the writer: its dictionary, what was done with it, and the number of its counted calls
+-- the writer: its dictionary, what was done with it, the updates that readers see from now on, and the number of its counted calls
 pub record WriterView : Type 0 where
   pub origin : Origin
   pub done : List Deed
+  pub published : Log
   pub calls : ℕ
 
 -- a pass: its dictionary and its number there, the part of the log that it has seen, what was done with it,
@@ -57,10 +58,17 @@ pub record IsPassOf (d : Dictionary) (p : PassView) : Type 0 where
   pub made : p.origin ≡ d.origin
   pub number : p.number < d.readers
 
+-- all answered updates are published, and each had the map's reply
+pub record IsCurrent (w : WriterView) : Type 0 where
+  pub published : w.published ≡ log w
+  pub replies : AreReplies (log w)
+
 -- the writer has made this update and was given the map's reply, and nothing else was done with it
 pub record HasUpdated (old : WriterView) (u : Update ℕ) (new : WriterView) (r : Reply) : Type 0 where
   pub reply : r ≡ (step nat_cmp capacity (map_after (log old)) u).1
-  pub writer : new ≡ record old { done = old.done ++ Updated (record { update = u; reply = r }) ∷ []; calls = old.calls + 1 }
+  pub appended : log new ≡ log old ++ record { update = u; reply = r } ∷ []
+  pub writer : new ≡ record old { done = old.done ++ Updated (record { update = u; reply = r }) ∷ []; published = log new; calls = old.calls + 1 }
+  pub current : IsCurrent new
 
 -- an answer as `look` gives it
 abbrev pub look_of : Option ℕ → Look
@@ -73,7 +81,7 @@ placed p k = record { key = k; answer = find nat_cmp (map_after p.seen) k; place
 
 -- a writer with which nothing was done
 abbrev pub fresh_writer : Dictionary → WriterView
-fresh_writer d = record { origin = d.origin; done = []; calls = 0 }
+fresh_writer d = record { origin = d.origin; done = []; published = []; calls = 0 }
 
 -- a pass with which nothing was done, and that has seen nothing
 abbrev pub fresh_pass : Dictionary → ℕ → PassView
@@ -88,6 +96,7 @@ AreFresh d n (p ∷ ps) = (p ≡ fresh_pass d n) × AreFresh d (n + 1) ps
 pub record IsTied (w : WriterView) (p : PassView) (w' : WriterView) (p' : PassView) : Type 0 where
   pub prefix : IsPrefix p.seen (log w)
   pub writer : w' ≡ record w { calls = w.calls + 1 }
+  pub current : IsCurrent w'
   pub pass : p' ≡ record p { seen = log w; enters = p'.enters; calls = p.calls + 1 }
   pub enters : p.enters < p'.enters
   pub placed : ArePlaced (log w) 0 p.done

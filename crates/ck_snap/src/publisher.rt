@@ -25,7 +25,7 @@ const CAPACITY: u64 = 65_536;
 
 pub type CopyWriter = Writer<Snapshot, Version, View, Folds>;
 
-/// Publishes version after version. It isn't `Drop`: end it by `finish`.
+/// Publishes version after version. Contracts see what is published. It isn't `Drop`: end it by `finish`.
 pub struct Publisher {
     writer: CopyWriter,
     /// The published version, or the same one settled.
@@ -34,14 +34,13 @@ pub struct Publisher {
 
 impl Model for Publisher {
     ghost use Rattle.ck_snap.specs.Growing.{Reached};
-    ghost use Rattle.ck_snap.specs.Version.{log_of, book_of};
-    ghost use Rattle.ck_snap.specs.Publishing.{IsPublisher};
+    ghost use Rattle.ck_snap.specs.Publishing.{published_by, IsPublisher};
 
     ghost Value = { Reached };
 
-    ghost view = { λ p. record { book = book_of p.version; log = log_of p.version } };
+    ghost view = { published_by };
 
-    ghost invariant = { λ p. IsPublisher p };
+    ghost invariant = { IsPublisher };
 }
 
 /// Shows the one version that is pending. It waits for the readers of the copy from before.

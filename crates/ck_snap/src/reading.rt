@@ -3,7 +3,7 @@ ghost use Rattle.std.specs.Prelude.{◌≡◌, ◌+◌, ◌<◌, ◌≤◌, ◌^
 ghost use mathlib.Core.List.{IsPrefix};
 ghost use Rattle.ck_snap.specs.declared.journal.Deed.TheVariants.{Answered, Reached};
 ghost use Rattle.ck_snap.specs.Places.{ArePlaced};
-ghost use Rattle.ck_snap.specs.Tokens.{IsPassOf, PassView, placed, look_of};
+ghost use Rattle.ck_snap.specs.Tokens.{IsPassOf, mine, placed, look_of};
 
 use crate::journal::Deed;
 use crate::tokens::{Snap, SnapPass};
@@ -13,11 +13,12 @@ use std::sync::Wait;
 impl Snap {
     /// The key's value, or that it is absent, after all updates that are published at the enter that this call makes. Never `Again`.
     pub fn look<R: Wait>(&self, rt: &R, pass: &mut SnapPass, key: Key) -> Look
-        requires mine { IsPassOf self.now pass.old }
+        requires token { IsPassOf self.now pass.old }
         requires calls { pass.old.calls < 2 ^ 40 }
         ensures later { IsPrefix pass.old.seen pass.new.seen }
         ensures answer { result ≡ look_of (placed pass.new key).answer }
         ensures pass { pass.new ≡ record pass.old { seen = pass.new.seen; done = pass.old.done ++ Answered (placed pass.new key) ∷ []; enters = pass.old.enters + 1; calls = pass.old.calls + 1 } }
+        ensures mine { mine pass.new ≡ mine pass.old ++ placed pass.new key ∷ [] }
         ensures placed { ArePlaced pass.new.seen 0 pass.new.done }
     {
         let answer = pass.subscriber.look(rt, key);
@@ -33,11 +34,12 @@ impl Snap {
 
     /// Whether at least `n` updates are published at the enter that this call makes. `Err` tells how many are.
     pub fn reached<R: Wait>(&self, rt: &R, pass: &mut SnapPass, n: u64) -> Result<(), u64>
-        requires mine { IsPassOf self.now pass.old }
+        requires token { IsPassOf self.now pass.old }
         ensures later { IsPrefix pass.old.seen pass.new.seen }
         ensures ok { OnOk result (n ≤ length pass.new.seen) }
         ensures err { IfErr result (λ count. (count ≡ length pass.new.seen) × (count < n)) }
         ensures pass { pass.new ≡ record pass.old { seen = pass.new.seen; done = pass.old.done ++ Reached n result ∷ []; enters = pass.old.enters + 1 } }
+        ensures mine { mine pass.new ≡ mine pass.old }
         ensures placed { ArePlaced pass.new.seen 0 pass.new.done }
     {
         pass.subscriber.see(rt);

@@ -34,7 +34,7 @@ impl Model for SnapWriter {
 
     ghost Value = { WriterView };
 
-    ghost view = { λ w. record { origin = record { log = w.publisher.book; journals = w.journal.journals }; done = w.journal.done; calls = w.calls } };
+    ghost view = { λ w. record { origin = record { log = w.publisher.book; journals = w.journal.journals }; done = w.journal.done; published = w.publisher.log; calls = w.calls } };
 
     ghost invariant = { λ w. IsWriter w };
 }

@@ -14,7 +14,7 @@ impl Snap {
         w: &mut SnapWriter,
         pass: &mut SnapPass,
     ) -> Result<(), AllocError>
-        requires mine { IsWriterOf self.now w.old × IsPassOf self.now pass.old }
+        requires tokens { IsWriterOf self.now w.old × IsPassOf self.now pass.old }
         requires calls { (w.old.calls < 2 ^ 40) × (pass.old.calls < 2 ^ 40) }
         ensures ok { OnOk result (IsTied w.old pass.old w.new pass.new) }
         ensures err { OnErr result ((w.new ≡ w.old) × (pass.new ≡ pass.old)) }

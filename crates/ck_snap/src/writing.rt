@@ -3,7 +3,7 @@ ghost use Rattle.std.specs.Prelude.{◌≡◌, ◌<◌, ◌^◌, ◌++◌, ◌�
 ghost use Rattle.ck_history.specs.declared.update.Update.TheVariants.{Set, Put, Del, Tidy};
 ghost use Rattle.ck_snap.specs.declared.journal.Deed.TheVariants.{Told};
 ghost use Rattle.ck_snap.specs.Log.{map_after};
-ghost use Rattle.ck_snap.specs.Tokens.{IsWriterOf, HasUpdated, log};
+ghost use Rattle.ck_snap.specs.Tokens.{IsWriterOf, IsCurrent, HasUpdated, log};
 
 use crate::journal::Deed;
 use crate::tokens::{Snap, SnapWriter};
@@ -21,7 +21,7 @@ impl Snap {
         key: Key,
         value: u64,
     ) -> Result<Reply, AllocError>
-        requires mine { IsWriterOf self.now w.old }
+        requires token { IsWriterOf self.now w.old }
         requires calls { w.old.calls < 2 ^ 40 }
         ensures ok { IfOk result (HasUpdated w.old (Set key value) w.new) }
         ensures err { OnErr result (w.new ≡ w.old) }
@@ -37,7 +37,7 @@ impl Snap {
         key: Key,
         value: u64,
     ) -> Result<Reply, AllocError>
-        requires mine { IsWriterOf self.now w.old }
+        requires token { IsWriterOf self.now w.old }
         requires calls { w.old.calls < 2 ^ 40 }
         ensures ok { IfOk result (HasUpdated w.old (Put key value) w.new) }
         ensures err { OnErr result (w.new ≡ w.old) }
@@ -47,7 +47,7 @@ impl Snap {
 
     /// Takes the key's pair out, and publishes that. An `AllocError` is as in `set`.
     pub fn remove<R: Wait>(&self, rt: &R, w: &mut SnapWriter, key: Key) -> Result<Reply, AllocError>
-        requires mine { IsWriterOf self.now w.old }
+        requires token { IsWriterOf self.now w.old }
         requires calls { w.old.calls < 2 ^ 40 }
         ensures ok { IfOk result (HasUpdated w.old (Del key) w.new) }
         ensures err { OnErr result (w.new ≡ w.old) }
@@ -57,7 +57,7 @@ impl Snap {
 
     /// Changes no pair, and is an update like the others. An `AllocError` is as in `set`.
     pub fn tidy<R: Wait>(&self, rt: &R, w: &mut SnapWriter) -> Result<Reply, AllocError>
-        requires mine { IsWriterOf self.now w.old }
+        requires token { IsWriterOf self.now w.old }
         requires calls { w.old.calls < 2 ^ 40 }
         ensures ok { IfOk result (HasUpdated w.old Tidy w.new) }
         ensures err { OnErr result (w.new ≡ w.old) }
@@ -72,7 +72,7 @@ impl Snap {
         w: &mut SnapWriter,
         update: Update<Key>,
     ) -> Result<Reply, AllocError>
-        requires mine { IsWriterOf self.now w.old }
+        requires token { IsWriterOf self.now w.old }
         requires calls { w.old.calls < 2 ^ 40 }
         ensures ok { IfOk result (HasUpdated w.old update w.new) }
         ensures err { OnErr result (w.new ≡ w.old) }
@@ -86,7 +86,7 @@ impl Snap {
 
     /// Answers 0, which tells nothing.
     pub fn answered(&self, w: &mut SnapWriter, reader: u64) -> u64
-        requires mine { IsWriterOf self.now w.old }
+        requires token { IsWriterOf self.now w.old }
         ensures zero { result ≡ 0 }
         ensures writer { w.new ≡ record w.old { done = w.old.done ++ Told reader 0 ∷ [] } }
     {
@@ -97,7 +97,8 @@ impl Snap {
     /// The pairs after all updates, by ascending key.
     pub fn entries(&self, alloc: Global, w: &SnapWriter) -> Result<Vec<(Key, u64)>, AllocError>
         requires { IsWriterOf self.now w.now }
-        ensures { IfOk result (λ v. v.items ≡ map_after (log w.now)) }
+        ensures pairs { IfOk result (λ v. v.items ≡ map_after (log w.now)) }
+        ensures current { IsCurrent w.now }
     {
         w.publisher.entries(alloc)
     }

@@ -11,5 +11,5 @@ use Rattle.ck_snap.proofs.publisher.Publisher.update.Goals as goal
 pub returns-clause-reply : goal.returns-clause-reply
 returns-clause-reply g c =
     let book = ap (λ (s : Snapshot). s.book) (c.published.ensures ∙ c.self.invariant.fold) in
-    let page : c.published.result.now.book ≡ page_after c.args.self.now.log = book ∙ ap page_after (c.self.invariant.log ∙ ap (λ (r : Reached). r.log) c.self.view_is) in
+    let page : c.published.result.now.book ≡ page_after c.args.self.now.log = book ∙ ap (λ (r : Reached). page_after r.log) c.self.view_is in
     c.reply-reply.ensures ∙ ap (λ (b : Page ℕ). (step nat_cmp b.most b.pairs c.args.update.now).1) page

@@ -1,8 +1,11 @@
-use Rattle.std.proofs.Common.{◌≡◌, ◌∙◌, length, ap}
+use Rattle.std.proofs.Common.{◌≡◌, ◌∙◌, ℕ, Option, [], ◌∷◌, ◌++◌, length, ap}
+use Rattle.std.specs.Ordering.{nat_cmp}
+use Rattle.ck_history.specs.Map.{find}
+use Rattle.ck_snap.specs.Places.{answers_of}
 use Rattle.ck_history.specs.declared.log.Placed.{Placed}
 use Rattle.ck_snap.specs.Journal.{JournalView}
-use Rattle.ck_snap.specs.Log.{Log}
-use Rattle.ck_snap.proofs.Placing.{placed_answered}
+use Rattle.ck_snap.specs.Log.{Log, map_after}
+use Rattle.ck_snap.proofs.Placing.{placed_answered, answers_of-append}
 use Rattle.ck_snap.proofs.tokens.Snap.look.Goals as goal
 
 pub returns-clause-placed : goal.returns-clause-placed
@@ -15,3 +18,12 @@ returns-clause-placed g c =
 
 pub invariant_of-pass : goal.invariant_of-pass
 invariant_of-pass g c = returns-clause-placed g c
+
+pub returns-clause-mine : goal.returns-clause-mine
+returns-clause-mine g c =
+    let done = c.pass.inside.journal.done in
+    let seen = c.look-answer.new.self.log in
+    let place : c.count-place.result ≡ length seen = c.count-place.ensures ∙ ap (λ (l : Log). length l) c.version.ensures.1 in
+    let at : Option ℕ → ℕ → Placed ℕ = λ answer place. record { key = c.args.key; answer = answer; place = place } in
+    let same = ap (λ answer. at answer c.count-place.result) c.look-answer.ensures.found ∙ ap (at (find nat_cmp (map_after seen) c.args.key)) place in
+    rw (← c.pass.view_is) (ap (λ (j : JournalView). answers_of j.done) c.append.ensures ∙ (answers_of-append done _ ∙ ap (λ a. answers_of done ++ a ∷ []) same))

@@ -1,9 +1,10 @@
 use Rattle.std.proofs.Common.{◌≡◌, ◌∙◌, ◌≤◌, ◌++◌, ◌∷◌, [], length, ap, arith}
+use Rattle.std.proofs.lemmas.List.{append-nil}
 use Rattle.ck_snap.specs.declared.journal.Deed.TheVariants.{Reached}
 use Rattle.ck_snap.specs.Journal.{JournalView}
 use Rattle.ck_snap.specs.Log.{Log}
-use Rattle.ck_snap.specs.Places.{ArePlaced}
-use Rattle.ck_snap.proofs.Placing.{placed_reached, placed_waits}
+use Rattle.ck_snap.specs.Places.{answers_of, ArePlaced}
+use Rattle.ck_snap.proofs.Placing.{placed_reached, placed_waits, answers_of-append}
 use Rattle.ck_snap.proofs.tokens.Snap.reached.Goals.{then-n-count, else-n-count}
 use Rattle.ck_snap.proofs.tokens.Snap.reached.Goals as goal
 
@@ -23,3 +24,8 @@ returns-clause-placed g c =
 
 pub invariant_of-pass : goal.invariant_of-pass
 invariant_of-pass g c = returns-clause-placed g c
+
+pub returns-clause-mine : goal.returns-clause-mine
+returns-clause-mine g c =
+    let done = c.pass.inside.journal.done in
+    rw (← c.pass.view_is) (ap (λ (j : JournalView). answers_of j.done) c.append.ensures ∙ (answers_of-append done _ ∙ append-nil (answers_of done)))

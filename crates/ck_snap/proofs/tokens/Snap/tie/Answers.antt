@@ -5,7 +5,7 @@ use Rattle.logbook.specs.Pages.{Book}
 use Rattle.ck_snap.specs.Tokens.{PassView}
 use Rattle.ck_snap.specs.Growing.{Reached}
 use Rattle.ck_snap.specs.Copies.{Known}
-use Rattle.ck_snap.specs.Log.{Log}
+use Rattle.ck_snap.specs.Log.{Log, AreReplies}
 use Rattle.ck_snap.specs.Version.{log_of}
 use Rattle.ck_snap.specs.Places.{updates_of, ArePlaced}
 use Rattle.ck_snap.proofs.Placing.{placed_later}
@@ -23,8 +23,9 @@ returns-clause-ok g c =
     let pass = c.pass.inside in
     let published = c.in_ok-publish.ensures.ok in
     let end = c.catch_up.ensures.end in
+    let kept : c.publish.new.self.log ≡ w.publisher.log = ap (λ (r : Reached). r.log) published ∙ append-nil w.publisher.log in
     let whole : log_of c.version.result.now ≡ updates_of w.journal.done =
-    c.version.ensures.1 ∙ (ap (λ (r : Reached). r.log) published ∙ (append-nil w.publisher.log ∙ sym c.w.invariant.log)) in
+    c.version.ensures.1 ∙ (kept ∙ sym c.w.invariant.log) in
     let later : IsPrefix pass.subscriber.log (updates_of w.journal.done) = subst (λ (l : Log). IsPrefix pass.subscriber.log l) whole c.catch_up.ensures.later in
     let book = ap (λ (r : Reached). r.book) published in
     let known = ap (λ (k : Known). k.book) end in
@@ -39,7 +40,8 @@ returns-clause-ok g c =
     } in
     rw (← c.w.view_is, ← c.pass.view_is) (record {
       prefix = later;
-      writer = cc (book);
+      writer = cc (book, kept);
+      current = record { published = kept ∙ sym c.w.invariant.log; replies = subst AreReplies (sym c.w.invariant.log) c.w.invariant.replies };
       pass = ap (λ b. ended b c.catch_up.new.self.log) known ∙ ap (ended pass.subscriber.book) seen;
       enters = c.catch_up.ensures.enters;
       placed = placed_later pass.subscriber.log (updates_of w.journal.done) later 0 pass.journal.done c.pass.invariant;
