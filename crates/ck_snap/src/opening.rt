@@ -13,8 +13,8 @@ impl Snap {
     /// A dictionary with no pair, its writer, and a pass for each of 1 to 64 readers. Both copies have room for 65,536 pairs.
     /// It publishes once, by which the passes learn of its log.
     pub fn new<R: Wait>(
-        alloc: Global,
         rt: &R,
+        alloc: Global,
         readers: u64,
     ) -> Result<(Snap, SnapWriter, Vec<SnapPass>), AllocError>
         requires { (1 ≤ readers) × (readers ≤ 64) }
@@ -23,7 +23,7 @@ impl Snap {
         ensures passes { IfOk result (λ r. (vec_len r.2 ≡ readers) × AreFresh r.0 0 r.2.items) }
     {
         let (journals, mut journal) = Journals::new(alloc)?;
-        let (mut publisher, length) = Publisher::new(alloc, rt, readers)?;
+        let (mut publisher, length) = Publisher::new(rt, alloc, readers)?;
         let snap = Snap {
             length,
             journals,

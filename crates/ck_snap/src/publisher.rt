@@ -80,8 +80,8 @@ fn empty(alloc: Global, version: &Version) -> Result<Snapshot, AllocError>
 impl Publisher {
     /// Two copies with no pair, and the word of their log.
     pub fn new<R: Wait>(
-        alloc: Global,
         rt: &R,
+        alloc: Global,
         readers: u64,
     ) -> Result<(Publisher, Length), AllocError>
         requires { (1 ≤ readers) × (readers ≤ 64) }

@@ -48,8 +48,8 @@ struct Answers {
 
 // Each update of one key, with a look-up after the first and one after the last.
 fn each_update<R: Wait>(
-    alloc: Global,
     rt: &R,
+    alloc: Global,
     snap: &Snap,
     w: &mut SnapWriter,
     pass: &mut SnapPass,
@@ -74,9 +74,9 @@ fn each_update<R: Wait>(
 
 #[test]
 fn a_pass_sees_each_update(rt: HostRuntime) -> Result<(), Fail> {
-    let (snap, mut w, passes) = Snap::new(rt.alloc(), &rt, 1)?;
+    let (snap, mut w, passes) = Snap::new(&rt, rt.alloc(), 1)?;
     let mut pass = one(&snap, passes);
-    let answers = each_update(rt.alloc(), &rt, &snap, &mut w, &mut pass);
+    let answers = each_update(&rt, rt.alloc(), &snap, &mut w, &mut pass);
     snap.finish(&rt, w);
     let answers = answers?;
     assert_eq!(rt;
@@ -111,7 +111,7 @@ fn told<R: Wait>(
 
 #[test]
 fn waits_tell_how_many_updates_are_published(rt: HostRuntime) -> Result<(), Fail> {
-    let (snap, mut w, passes) = Snap::new(rt.alloc(), &rt, 1)?;
+    let (snap, mut w, passes) = Snap::new(&rt, rt.alloc(), 1)?;
     let mut pass = one(&snap, passes);
     let told = told(&rt, &snap, &mut w, &mut pass);
     snap.finish(&rt, w);
@@ -211,7 +211,7 @@ fn tie_both<R: Wait>(
 
 #[test]
 fn two_readers_never_see_the_map_go_back(rt: HostRuntime) -> Result<(), Fail> {
-    let (snap, mut w, passes) = Snap::new(rt.alloc(), &rt, 2)?;
+    let (snap, mut w, passes) = Snap::new(&rt, rt.alloc(), 2)?;
     let (mut a, mut b) = both(&snap, passes);
     let (made, fell) = count_and_watch(&rt, &snap, &mut w, &mut a, &mut b);
     let last = tie_both(&rt, &snap, &mut w, &mut a, &mut b);
