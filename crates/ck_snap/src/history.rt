@@ -1,5 +1,5 @@
 //! The log of the answered updates. It exists in proofs alone: what the tokens share of it is its length, in one word.
-ghost use Rattle.std.specs.Prelude.{◌≡◌, ◌<◌, ◌≤◌, ◌^◌, ◌∷◌, ◌++◌, [], length, IfSome, IsTrue};
+ghost use Rattle.std.specs.Prelude.{◌≡◌, ◌<◌, ◌≤◌, ◌^◌, ◌∷◌, ◌++◌, [], length, ◌↔◌, IfSome, IsTrue};
 
 use ck_history::{Key, LogEntry};
 use logbook::{Gain, Offer, Plain, Play, Rule, Seen, Start, Word};
@@ -147,7 +147,8 @@ impl Prefix {
     /// Whether both have as many entries, and then they are one prefix.
     pub fn is_as_long(&self, other: &Prefix) -> bool
         requires { self.now.book ≡ other.now.book }
-        ensures { IsTrue result → self.now ≡ other.now }
+        ensures when { IsTrue result ↔ length self.now.log ≡ length other.now.log }
+        ensures same { IsTrue result → self.now ≡ other.now }
     {
         if self.count != other.count {
             return false;

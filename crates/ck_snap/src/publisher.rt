@@ -78,7 +78,7 @@ fn empty(alloc: Global, version: &Version) -> Result<Snapshot, AllocError>
 }
 
 impl Publisher {
-    /// Two copies with no pair, and the word of their log.
+    /// Two copies with no pair, and the word of their log. They are published once, so that the writer knows their log.
     pub fn new<R: Wait>(
         rt: &R,
         alloc: Global,

@@ -1,5 +1,5 @@
 //! Which version of the map a copy is.
-ghost use Rattle.std.specs.Prelude.{◌≡◌, ◌≤◌, ◌^◌, length, IsTrue, None, OnOk, OnErr};
+ghost use Rattle.std.specs.Prelude.{◌≡◌, ◌≤◌, ◌^◌, length, ◌↔◌, IsTrue, None, OnOk, OnErr};
 ghost use Rattle.ck_snap.specs.Version.{log_of, book_of};
 
 use crate::history::{Length, Prefix};
@@ -51,7 +51,8 @@ impl Version {
     /// Whether both are in the log whole, and as long. Then they come from the same updates.
     pub fn agrees(&self, other: &Version) -> bool
         requires { book_of self.now ≡ book_of other.now }
-        ensures { IsTrue result → log_of self.now ≡ log_of other.now }
+        ensures when { IsTrue result ↔ (self.now.last ≡ None) × (other.now.last ≡ None) × (length self.now.prefix.log ≡ length other.now.prefix.log) }
+        ensures same { IsTrue result → log_of self.now ≡ log_of other.now }
     {
         self.last.is_none() && other.last.is_none() && self.prefix.is_as_long(&other.prefix)
     }

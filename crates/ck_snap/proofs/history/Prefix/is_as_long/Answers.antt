@@ -5,8 +5,8 @@ use Rattle.ck_snap.specs.Growing.{Reached}
 use Rattle.ck_snap.proofs.Prefixes.{prefix_same}
 use Rattle.ck_snap.proofs.history.Prefix.is_as_long.Goals as goal
 
-pub returns : goal.returns
-returns c both_as_long =
+pub returns-clause-same : goal.returns-clause-same
+returns-clause-same c both_as_long =
     let mine = c.self.inside.seen in
     let other = c.other.inside.seen in
     let both = c.learn.new.self.log in

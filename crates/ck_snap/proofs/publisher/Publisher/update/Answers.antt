@@ -1,4 +1,4 @@
-use Rattle.std.proofs.Common.{◌≡◌, ◌∙◌, ℕ, ap}
+use Rattle.std.proofs.Common.{◌≡◌, ◌∙◌, ℕ, ap, subst}
 use Rattle.std.specs.Ordering.{nat_cmp}
 use Rattle.ck_history.specs.Map.{step}
 use Rattle.ck_history.specs.Page.{Page}
@@ -12,4 +12,4 @@ pub returns-clause-reply : goal.returns-clause-reply
 returns-clause-reply g c =
     let book = ap (λ (s : Snapshot). s.book) (c.published.ensures ∙ c.self.invariant.fold) in
     let page : c.published.result.now.book ≡ page_after c.args.self.now.log = book ∙ ap (λ (r : Reached). page_after r.log) c.self.view_is in
-    c.reply-reply.ensures ∙ ap (λ (b : Page ℕ). (step nat_cmp b.most b.pairs c.args.update.now).1) page
+    subst (λ (b : Page ℕ). c.reply-reply.result ≡ (step nat_cmp b.most b.pairs c.args.update.now).1) page c.reply-reply.ensures
