@@ -1,0 +1,5 @@
+pub mod Slots
+pub mod Standing
+pub mod Holding
+pub mod Changes
+pub mod Counting
