@@ -1,4 +1,5 @@
 pub mod Slots
+pub mod Firsts
 pub mod Stores
 pub mod Fills
 pub mod Forms

@@ -1,7 +1,7 @@
 -- What the slots of a map stand for, in the form that each store keeps. It implies, and is implied by, `StandFor`.
 use Rattle.std.specs.Prelude.{◌≡◌, ◌≢◌, ℕ, zero, suc, ◌<◌, ◌≤◌, ◌⊎◌, Bool, cond, ◌==◌, ◌&&◌, Some, None}
 use Rattle.ck_slots.specs.Slots.{Order, View, Holds, IsBefore, NoneBefore, HasState}
-use Rattle.ck_slots.specs.Standing.{Copies, single, double, Pairs}
+use Rattle.ck_slots.specs.Standing.{Copies, single, double, Pairs, IsUnbroken}
 
 -- the slot is the later copy of a key that is being moved
 abbrev pub IsOld : Copies → ℕ → ℕ → Type 0
@@ -17,7 +17,7 @@ pub record IsHeld (o : Order) (v : View) (copies : Copies) (m : Pairs) : Type 0 
   -- some slot is empty
   pub hole : (e : ℕ) × (e < o.slots) × (v.state e ≡ 0)
   -- no slot on the way to a key is empty
-  pub way : (k s t : ℕ) → Holds o v k s → IsBefore o k t s → v.state t ≢ 0
+  pub way : IsUnbroken o v
   -- what stands is in the map, but for the later copy of a key that is being moved
   pub present : (k s : ℕ) → Holds o v k s → IsOld copies k s ⊎ (m k ≡ Some (v.value s))
   -- what is in the map stands

@@ -1,0 +1,11 @@
+//! The writer's plan for a hash table's next update, on plain words: nothing here is shared.
+//!
+//! A region is a list of words, four for each slot. `specs/Region.antt` lays it out, `specs/Plans.antt` says what a plan is, and
+//! `specs/Steps.antt` which steps it has. The laws say what the words stand for after each of these steps.
+#![tactic(auto)]
+
+mod cases;
+mod probes;
+
+pub use cases::Plan;
+pub use probes::{plan, seek};
