@@ -1,15 +1,14 @@
 -- A probe that has passed some steps, and where it stops.
-use Rattle.std.proofs.Common.{◌≡◌, ◌≢◌, ℕ, suc, ◌+◌, ◌<◌, ◌≤◌, refl, sym, ap, ◌∙◌, subst, arith}
+use Rattle.std.proofs.Common.{◌≡◌, ◌≢◌, ℕ, ◌+◌, ◌<◌, ◌≤◌, refl, sym, ap, ◌∙◌, subst, arith}
 use Rattle.std.specs.Prelude.{Bool, true, false, not, Option, Some, None, MatchOption, is_some}
 use mathlib.Core.Logic.{dite}
 use native.Mathlib.Decide.{ℕ_discrete}
-use Rattle.ck_slots.specs.Slots.{Order, IsOrder, View, Holds, HasState, IsBefore, IsFirst}
+use Rattle.ck_slots.specs.Slots.{Order, IsOrder, View, Holds, HasState, IsFirst}
 use Rattle.ck_slots.specs.Standing.{IsUnbroken}
 use Rattle.ck_slots.proofs.Firsts.{first_with}
 use Rattle.ck_htplan.specs.Plans.{NoTombstoneBefore, IsMetBefore, IsEnd, IsPlan, IsSought, Probed}
 use Rattle.ck_htplan.specs.declared.cases.Plan.{Plan}
 use Rattle.ck_htplan.specs.declared.cases.Plan.TheVariants.{Empty, Reuse, Stand, Move}
-use Rattle.ck_htplan.specs.declared.probes.Probe.{Probe}
 
 module _ (o : Order) (v : View) (k : ℕ) where
   -- what is known of the first tombstone after the steps below i

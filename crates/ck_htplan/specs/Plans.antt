@@ -1,5 +1,5 @@
 -- What `plan` and `seek` answer.
-use Rattle.std.specs.Prelude.{◌≡◌, ℕ, Option, Some, None, MatchOption, MatchBool, Bool, true, false}
+use Rattle.std.specs.Prelude.{◌≡◌, ℕ, Option, MatchOption, Bool, true, false}
 use Rattle.ck_slots.specs.Slots.{Order, View, Holds, HasState, IsBefore, NoneBefore, IsFirst}
 use Rattle.ck_htplan.specs.declared.cases.Plan.{Plan}
 use Rattle.ck_htplan.specs.declared.cases.Plan.TheVariants.{Empty, Reuse, Stand, Move}

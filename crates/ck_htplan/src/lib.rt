@@ -5,7 +5,9 @@
 #![tactic(auto)]
 
 mod cases;
+mod laws;
 mod probes;
 
 pub use cases::Plan;
+pub use laws::{opening_law, plan_law, rebuild_law, remove_law, room_law, set_law};
 pub use probes::{plan, seek};

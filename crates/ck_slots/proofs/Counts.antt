@@ -68,3 +68,14 @@ count_used f (suc n) = let r = count_used f n in by_used (λ u. count f 1 (suc n
 -- Where a fresh key needs no rebuild, another slot is empty than the one that it takes
 pub no_rebuild : (f : ℕ → ℕ) (s n : ℕ) → 4 ≤ n → ((t : ℕ) → t < n → f t ≤ 2) → NeedsNoRebuild (count f 1 n) (count f 2 n) n → (e : ℕ) × (e < n) × (e ≢ s) × (f e ≡ 0)
 no_rebuild f s n many states rule = let u = used_parts f n states in another_empty f s n (omega arith)
+
+pub count_here : (f : ℕ → ℕ) (x n : ℕ) → f n ≡ x → count f x (suc n) ≡ suc (count f x n)
+count_here f x n e = by_count (λ u. u ≡ suc (count f x n)) f x n (λ d. refl) (λ d. absurd (d e))
+
+pub count_else : (f : ℕ → ℕ) (x n : ℕ) → f n ≢ x → count f x (suc n) ≡ count f x n
+count_else f x n e = by_count (λ u. u ≡ count f x n) f x n (λ d. absurd (e d)) (λ d. refl)
+
+pub count_mono : (f : ℕ → ℕ) (x d n : ℕ) → count f x n ≤ count f x (d + n)
+count_mono f x zero n = let e : zero + n ≡ n = omega arith in let a = ap (count f x) e in omega arith
+count_mono f x (suc d) n = let e : suc d + n ≡ suc (d + n) = omega arith in let a = ap (count f x) e in let r = count_mono f x d n in
+    by_count (λ u. count f x (suc d + n) ≡ u → count f x n ≤ count f x (suc d + n)) f x (d + n) (λ z. λ y. omega arith) (λ z. λ y. omega arith) a

@@ -1,6 +1,6 @@
 -- What the slots of a map stand for, in the form that each store keeps. It implies, and is implied by, `StandFor`.
 use Rattle.std.specs.Prelude.{◌≡◌, ◌≢◌, ℕ, zero, suc, ◌<◌, ◌≤◌, ◌⊎◌, Bool, cond, ◌==◌, ◌&&◌, Some, None}
-use Rattle.ck_slots.specs.Slots.{Order, View, Holds, IsBefore, NoneBefore, HasState}
+use Rattle.ck_slots.specs.Slots.{Order, View, Holds, NoneBefore, HasState}
 use Rattle.ck_slots.specs.Standing.{Copies, single, double, Pairs, IsUnbroken}
 
 -- the slot is the later copy of a key that is being moved

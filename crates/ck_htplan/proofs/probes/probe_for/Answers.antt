@@ -1,11 +1,11 @@
-use Rattle.std.proofs.Common.{◌≡◌, ℕ, ◌+◌, ◌*◌, ◌^◌, ◌<◌, length, sym, refl, ap, ◌∙◌, subst, arith}
+use Rattle.std.proofs.Common.{◌≡◌, ℕ, ◌+◌, ◌^◌, ◌<◌, sym, refl, ap, ◌∙◌, subst, arith}
 use Rattle.std.proofs.lemmas.Nat.{one_shl}
-use Rattle.std.specs.Prelude.{Option, Some, None}
+use Rattle.std.specs.Prelude.{None}
 use Rattle.ck_probe.specs.ProbeOrder.{slot_of}
 use Rattle.ck_slots.specs.Slots.{Holds}
 use Rattle.ck_htplan.specs.Region.{order_of, view_of}
 use Rattle.ck_htplan.proofs.Orders.{four, order_is}
-use Rattle.ck_htplan.proofs.Passing.{IsPassed, none_there, some_there, passed_none, pass_first, pass, stop_empty, stop_met, not_all}
+use Rattle.ck_htplan.proofs.Passing.{IsPassed, none_there, some_there, pass_first, pass, stop_empty, stop_met, not_all}
 use Rattle.ck_htplan.proofs.probes.probe_for.Goals as goal
 use Rattle.ck_htplan.proofs.probes.probe_for.Goals.{then-state-eq-TOMBSTONE+then-is_none, else-state-eq-TOMBSTONE, else-state-eq-TOMBSTONE-via-then-state-eq-TOMBSTONE+else-is_none, else-state-eq-TOMBSTONE-via-else-state-eq-TOMBSTONE}
 
