@@ -7,6 +7,8 @@
 mod cases;
 mod laws;
 mod probes;
+#[cfg(test)]
+mod tests;
 
 pub use cases::Plan;
 pub use laws::{opening_law, plan_law, rebuild_law, remove_law, room_law, set_law};
