@@ -1,12 +1,13 @@
 -- A probe that has passed some steps, and where it stops.
 use Rattle.std.proofs.Common.{◌≡◌, ◌≢◌, ℕ, ◌+◌, ◌<◌, ◌≤◌, refl, sym, ap, ◌∙◌, subst, arith}
-use Rattle.std.specs.Prelude.{Bool, true, false, not, Option, Some, None, MatchOption, is_some}
+use Rattle.std.specs.Prelude.{Bool, true, false, Option, Some, None, MatchOption}
+use Rattle.std.specs.Option.{option_or}
 use mathlib.Core.Logic.{dite}
 use native.Mathlib.Decide.{ℕ_discrete}
 use Rattle.ck_slots.specs.Slots.{Order, IsOrder, View, Holds, HasState, IsFirst}
 use Rattle.ck_slots.specs.Standing.{IsUnbroken}
 use Rattle.ck_slots.proofs.Firsts.{first_with}
-use Rattle.ck_htplan.specs.Plans.{NoTombstoneBefore, IsMetBefore, IsEnd, IsPlan, IsSought, Probed}
+use Rattle.ck_htplan.specs.Plans.{NoTombstoneBefore, IsMetBefore, IsEnd, IsPlan, IsSought, IsWhereKeyStands, Probed}
 use Rattle.ck_htplan.specs.declared.cases.Plan.{Plan}
 use Rattle.ck_htplan.specs.declared.cases.Plan.TheVariants.{Empty, Reuse, Stand, Move}
 
@@ -43,16 +44,24 @@ module _ (o : Order) (ok : IsOrder o) (v : View) (k i at : ℕ) (inside : i < o.
     first = first;
   }
 
-  -- as the first tombstone
-  pub pass_first : v.state at ≡ 2 → IsPassed o v k i None → IsPassed o v k (i + 1) (Some at)
-  pass_first tomb h = passed_on None (Some at) (λ e. absurd (omega arith)) (λ x. let e = x.full in absurd (omega arith)) h
-      (record { inside = at_inside; here = tomb; none_before = λ t b z. (let l = b.earlier in let e = step_at in h.first t b.inside (omega arith) z) }, (let e = step_at in omega arith))
+  -- a tombstone, which is the first one if there was none
+  pub pass_tombstone : (r : Option ℕ) → v.state at ≡ 2 → IsPassed o v k i r → IsPassed o v k (i + 1) (option_or r (Some at))
+  pass_tombstone r tomb h = passed_on r (option_or r (Some at)) (λ e. absurd (omega arith)) (λ x. let e = x.full in absurd (omega arith)) h (first_of r h.first)
+    where
+      first_of : (r : Option ℕ) → IsTombstone o v k i r → IsTombstone o v k (i + 1) (option_or r (Some at))
+      first_of None f = (
+        record { inside = at_inside; here = tomb; none_before = λ t b z. (let l = b.earlier in let e = step_at in f t b.inside (omega arith) z) },
+        (let e = step_at in omega arith),
+      )
+      first_of (Some t) f = (f.0, (let l = f.1 in omega arith))
 
-  -- as another slot
-  pub pass : (r : Option ℕ) → v.state at ≢ 0 → (Holds o v k at → ⊥) → (r ≡ None → v.state at ≢ 2) → IsPassed o v k i r → IsPassed o v k (i + 1) r
-  pass None full other kept h = passed_on None None full other h
-      (λ t l z. dite (ℕ_discrete (o.step k t) i) (λ (e : o.step k t ≡ i). λ y. kept refl (ap v.state (sym (only t l e)) ∙ y)) (λ (n : o.step k t ≢ i). h.first t l (omega arith)))
-  pass (Some t) full other kept h = passed_on (Some t) (Some t) full other h (h.first.0, (let l = h.first.1 in omega arith))
+  -- another slot
+  pub pass : (r : Option ℕ) → v.state at ≢ 0 → (Holds o v k at → ⊥) → v.state at ≢ 2 → IsPassed o v k i r → IsPassed o v k (i + 1) r
+  pass r full other no_tomb h = passed_on r r full other h (still r h.first)
+    where
+      still : (r : Option ℕ) → IsTombstone o v k i r → IsTombstone o v k (i + 1) r
+      still None f = λ t l z. dite (ℕ_discrete (o.step k t) i) (λ (e : o.step k t ≡ i). λ y. no_tomb (ap v.state (sym (only t l e)) ∙ y)) (λ (n : o.step k t ≢ i). f t l (omega arith))
+      still (Some t) f = (f.0, (let l = f.1 in omega arith))
 
   before : (r : Option ℕ) → IsTombstone o v k i r → MatchOption r (NoTombstoneBefore o v k at) (λ t. IsMetBefore o v k (HasState v 2) at t)
   before None h = λ t b z. (let l = b.earlier in let e = step_at in h t b.inside (omega arith) z)
@@ -93,15 +102,6 @@ module _ (o : Order) (ok : IsOrder o) (v : View) (k i at : ℕ) (inside : i < o.
 pub not_all : (o : Order) → IsOrder o → (v : View) (k : ℕ) (r : Option ℕ) → ((e : ℕ) × (e < o.slots) × (v.state e ≡ 0)) → IsPassed o v k o.slots r → ⊥
 not_all o ok v k r hole h = h.filled hole.0 hole.1 (ok.step_within k hole.0 hole.1) hole.2
 
--- what `is_none` says
-pub none_there : (r : Option ℕ) (b : Bool) → is_some r ≡ not b → b ≡ true → r ≡ None
-none_there None b e t = refl
-none_there (Some x) b e t = let n = ap not t in absurd (cc)
-
-pub some_there : (r : Option ℕ) (b : Bool) → is_some r ≡ not b → b ≡ false → r ≡ None → ⊥
-some_there None b e f n = let m = ap not f in absurd (cc)
-some_there (Some x) b e f n = absurd (cc)
-
 -- the answers, by what the probe met
 abbrev pub plan_of : Bool → Option ℕ → ℕ → Plan
 plan_of false None at = Empty at
@@ -126,7 +126,7 @@ module _ (o : Order) (v : View) (k : ℕ) where
   sought true r at p = (p.0, p.1, p.2)
 
   -- where no empty slot stands before a key, it is the key's first slot
-  pub sought_stands : IsOrder o → IsUnbroken o v → (r : Option ℕ) → IsSought o v k r → MatchOption r ((s : ℕ) → Holds o v k s → ⊥) (λ at. IsFirst o k (Holds o v k) at)
+  pub sought_stands : IsOrder o → IsUnbroken o v → (r : Option ℕ) → IsSought o v k r → IsWhereKeyStands o v k r
   sought_stands ok way (Some at) s = s.2.0
   sought_stands ok way None s = λ t x.
       let end = s.0 in

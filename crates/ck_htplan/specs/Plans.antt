@@ -34,6 +34,10 @@ module _ (o : Order) (v : View) (k : ℕ) where
   abbrev pub IsSought : Option ℕ → Type 0
   IsSought r = (end : ℕ) × IsEnd end × MatchOption r (NoKeyBefore end) (λ at. IsMetBefore (Holds o v k) end at)
 
+  -- the key's first slot, wherever it is, or none where no slot holds the key
+  abbrev pub IsWhereKeyStands : Option ℕ → Type 0
+  IsWhereKeyStands r = MatchOption r ((s : ℕ) → Holds o v k s → ⊥) (λ at. IsFirst o k (Holds o v k) at)
+
   -- A probe that stopped at its end, or at the key before it
   abbrev pub StopsAt : ℕ → Bool → ℕ → Type 0
   StopsAt end true at = IsMetBefore (Holds o v k) end at

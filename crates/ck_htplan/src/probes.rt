@@ -1,9 +1,8 @@
 //! One pass through the slots of a key's probe order.
-ghost use Rattle.std.specs.Prelude.{◌≡◌, ℕ, ◌+◌, ◌*◌, ◌^◌, ◌<◌, ◌≤◌, ◌↔◌, length, slice_index, IsTrue, MatchOption};
-ghost use Rattle.ck_slots.specs.Slots.{Holds, HasState, IsFirst};
+ghost use Rattle.std.specs.Prelude.{◌≡◌, ℕ, ◌+◌, ◌*◌, ◌^◌, ◌<◌, ◌≤◌, ◌↔◌, length, slice_index, IsTrue};
 ghost use Rattle.ck_slots.specs.Standing.{IsUnbroken};
 ghost use Rattle.ck_htplan.specs.Region.{order_of, view_of, low_of, high_of};
-ghost use Rattle.ck_htplan.specs.Plans.{Probed, IsPlan, IsSought};
+ghost use Rattle.ck_htplan.specs.Plans.{IsPlan, IsSought, IsWhereKeyStands, Probed};
 
 use crate::cases::Plan;
 use ck_history::Key;
@@ -58,9 +57,7 @@ pub fn seek(words: &[u64], c: u64, h: u64, key: Key) -> Option<u64>
     requires length { length words.now ≡ 2 ^ (c + 2) }
     requires empty { (s : ℕ) × (s < 2 ^ c) × ((view_of words.now).state s ≡ 0) }
     ensures sought { (hash : ℕ → ℕ) → hash key ≡ h → IsSought (order_of c hash) (view_of words.now) key result }
-    ensures stands { (hash : ℕ → ℕ) → hash key ≡ h → IsUnbroken (order_of c hash) (view_of words.now) →
-        let stands = Holds (order_of c hash) (view_of words.now) key in
-        MatchOption result ((s : ℕ) → stands s → ⊥) (λ at. IsFirst (order_of c hash) key stands at) }
+    ensures stands { (hash : ℕ → ℕ) → hash key ≡ h → IsUnbroken (order_of c hash) (view_of words.now) → IsWhereKeyStands (order_of c hash) (view_of words.now) key result }
 {
     let Probe { at, met, .. } = probe_for(words, c, h, key);
     if met { Some(at) } else { None }
@@ -95,8 +92,8 @@ fn probe_for(words: &[u64], c: u64, h: u64, key: Key) -> Probe
                 tombstone,
             };
         }
-        if state == TOMBSTONE && tombstone.is_none() {
-            tombstone = Some(at);
+        if state == TOMBSTONE {
+            tombstone = tombstone.or(Some(at));
         }
     }
     unreachable!()

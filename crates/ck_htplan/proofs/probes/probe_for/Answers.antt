@@ -5,9 +5,9 @@ use Rattle.ck_probe.specs.ProbeOrder.{slot_of}
 use Rattle.ck_slots.specs.Slots.{Holds}
 use Rattle.ck_htplan.specs.Region.{order_of, view_of}
 use Rattle.ck_htplan.proofs.Orders.{four, order_is}
-use Rattle.ck_htplan.proofs.Passing.{IsPassed, none_there, some_there, pass_first, pass, stop_empty, stop_met, not_all}
+use Rattle.ck_htplan.proofs.Passing.{IsPassed, pass_tombstone, pass, stop_empty, stop_met, not_all}
 use Rattle.ck_htplan.proofs.probes.probe_for.Goals as goal
-use Rattle.ck_htplan.proofs.probes.probe_for.Goals.{then-state-eq-TOMBSTONE+then-is_none, else-state-eq-TOMBSTONE, else-state-eq-TOMBSTONE-via-then-state-eq-TOMBSTONE+else-is_none, else-state-eq-TOMBSTONE-via-else-state-eq-TOMBSTONE}
+use Rattle.ck_htplan.proofs.probes.probe_for.Goals.{then-state-eq-TOMBSTONE, else-state-eq-TOMBSTONE}
 
 pub bounds-words-first : goal.bounds-words-first
 bounds-words-first c = omega (arith, four c.args.c, c.slot-at.ensures.within, c.requires.length)
@@ -27,16 +27,12 @@ loop-i-preserved c = λ hash e.
     let inside : i < 2 ^ c.args.c = omega (arith, one_shl c.args.c 64) in
     let other : Holds o v k s → ⊥ = λ x. (let held = c.holds_key.ensures.1 (x.full, x.is_low ∙ sym c.low_word-low.ensures, x.is_high ∙ sym c.high_word-high.ensures) in let no_key = c.if-holds_key.false in absurd (cc)) in
     elim c.if-state-eq-TOMBSTONE.branch [
-      | then-state-eq-TOMBSTONE+then-is_none w ↦
-          (let none : c.loop-i.tombstone ≡ None = none_there c.loop-i.tombstone w.is_none.result w.is_none.ensures w.if-is_none.true in
-          subst (IsPassed o v k (i + 1)) (sym w.tombstone-is) (pass_first o ok v k i s inside at w.if-state-eq-TOMBSTONE.true (subst (IsPassed o v k i) none (c.loop-i.invariant hash e))))
+      | then-state-eq-TOMBSTONE w ↦
+          subst (IsPassed o v k (i + 1)) (sym (w.tombstone-is ∙ w.or-tombstone.ensures))
+          (pass_tombstone o ok v k i s inside at c.loop-i.tombstone w.if-state-eq-TOMBSTONE.true (c.loop-i.invariant hash e))
       | else-state-eq-TOMBSTONE w ↦
-          subst (IsPassed o v k (i + 1)) (sym w.tombstone-is) (pass o ok v k i s inside at c.loop-i.tombstone c.if-state-eq-EMPTY.false other
-          (λ none. elim w.else-state-eq-TOMBSTONE.branch [
-            | else-state-eq-TOMBSTONE-via-then-state-eq-TOMBSTONE+else-is_none w' ↦ absurd (some_there c.loop-i.tombstone w'.is_none.result w'.is_none.ensures w'.if-is_none.false none)
-            | else-state-eq-TOMBSTONE-via-else-state-eq-TOMBSTONE w' ↦ w'.if-state-eq-TOMBSTONE.false
-          ])
-          (c.loop-i.invariant hash e))
+          subst (IsPassed o v k (i + 1)) (sym w.tombstone-is)
+          (pass o ok v k i s inside at c.loop-i.tombstone c.if-state-eq-EMPTY.false other w.if-state-eq-TOMBSTONE.false (c.loop-i.invariant hash e))
     ]
 
 pub returns-then-state-eq-EMPTY : goal.returns-then-state-eq-EMPTY
