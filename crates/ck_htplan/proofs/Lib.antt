@@ -5,3 +5,4 @@ pub mod Filling
 pub mod Updates
 pub mod Rebuilds
 pub mod OnePlan
+pub mod Answered

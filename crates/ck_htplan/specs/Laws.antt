@@ -1,5 +1,11 @@
 -- The laws of a region's words. A region has 2 ^ c slots.
-use Rattle.std.specs.Prelude.{◌≡◌, ◌≢◌, ℕ, ◌+◌, ◌^◌, ◌<◌, ◌≤◌, List, length, replicate, Some, None}
+use Rattle.std.specs.Prelude.{◌≡◌, ◌≢◌, ℕ, ◌+◌, ◌^◌, ◌<◌, ◌≤◌, ◌⊎◌, List, length, replicate, Option, Some, None, IsSome}
+use Rattle.std.specs.Option.{option_map}
+use Rattle.std.specs.declared.cmp.Ordering.{Ordering}
+use Rattle.std.specs.declared.cmp.Ordering.TheVariants.{Equal}
+use Rattle.std.specs.Cmp.{IsTotalOrder}
+use Rattle.ck_history.specs.Map.{Map, IsMap, find, step}
+use Rattle.ck_history.specs.declared.update.Update.TheVariants.{Set, Put, Del}
 use Rattle.ck_slots.specs.Slots.{Holds}
 use Rattle.ck_slots.specs.Standing.{single, Pairs, StandFor}
 use Rattle.ck_slots.specs.Changes.{IsUpdate}
@@ -7,7 +13,7 @@ use Rattle.ck_slots.specs.Counting.{count, NeedsNoRebuild}
 use Rattle.ck_htplan.specs.declared.cases.Plan.{Plan}
 use Rattle.ck_htplan.specs.declared.cases.Plan.TheVariants.{Empty, Reuse, Stand, Move}
 use Rattle.ck_htplan.specs.Region.{order_of, view_of}
-use Rattle.ck_htplan.specs.Plans.{IsPlan}
+use Rattle.ck_htplan.specs.Plans.{IsPlan, IsSought}
 use Rattle.ck_htplan.specs.Steps.{steps_of, removal, place_of, copies_after, StandAlong}
 use Rattle.ck_htplan.specs.Rebuild.{IsRebuilt, rebuilt_log}
 
@@ -27,6 +33,23 @@ LeavesEmpty c words (Empty at) = HasOtherEmpty c words at
 LeavesEmpty c words (Reuse at) = Unit {0}
 LeavesEmpty c words (Stand at) = Unit {0}
 LeavesEmpty c words (Move to from) = Unit {0}
+
+-- the slot in which a plan found the key
+abbrev pub found_by : Plan → Option ℕ
+found_by (Empty at) = None
+found_by (Reuse at) = None
+found_by (Stand at) = Some at
+found_by (Move to from) = Some from
+
+-- what the map gives a key is the value of the slot that `seek` answers ..
+abbrev pub SeekLaw : Type 0
+SeekLaw = (c : ℕ) (hash : ℕ → ℕ) (words : List ℕ) (m : Pairs) (key : ℕ) (r : Option ℕ) → IsRegion c hash words m
+    → IsSought (order_of c hash) (view_of words) key r → m key ≡ option_map (view_of words).value r
+
+-- .. and of the slot in which the plan found the key
+abbrev pub FoundLaw : Type 0
+FoundLaw = (c : ℕ) (hash : ℕ → ℕ) (words : List ℕ) (m : Pairs) (key : ℕ) (p : Plan) → IsRegion c hash words m
+    → IsPlan (order_of c hash) (view_of words) key p → m key ≡ option_map (view_of words).value (found_by p)
 
 -- no two plans are right
 abbrev pub PlanLaw : Type 0
@@ -57,6 +80,19 @@ RoomLaw = (c : ℕ) (words : List ℕ) (s : ℕ) → 3 ≤ c → ((t : ℕ) → 
 abbrev pub RebuiltRoomLaw : Type 0
 RebuiltRoomLaw = (c : ℕ) (hash : ℕ → ℕ) (old new : List ℕ) (m : Pairs) (s : ℕ) → IsRegion c hash old m
     → let c' = rebuilt_log c (count (view_of old).state 1 (2 ^ c)) in IsRebuilt c c' hash old new → HasOtherEmpty c' new s
+
+-- An update of a map of pairs, whose keys are ordered by cmp, changes what it gives the key, and nothing else
+pub record MapLaw (cmp : ℕ → ℕ → Ordering) : Type 0 where
+  -- a `Set` that isn't answered by `Full`
+  pub set : (most : ℕ) (m : Map ℕ) (key value : ℕ) → (IsSome (find cmp m key) ⊎ (length m < most)) → IsUpdate (find cmp m) (find cmp (step cmp most m (Set key value)).0) key (Some value)
+  -- a `Put` that adds the pair
+  pub put : (most : ℕ) (m : Map ℕ) (key value : ℕ) → find cmp m key ≡ None → length m < most → IsUpdate (find cmp m) (find cmp (step cmp most m (Put key value)).0) key (Some value)
+  -- a `Del` that takes a pair out
+  pub del : (most : ℕ) (m : Map ℕ) (key : ℕ) → IsMap cmp m → IsSome (find cmp m key) → IsUpdate (find cmp m) (find cmp (step cmp most m (Del key)).0) key None
+
+-- for every order that tells keys apart
+abbrev pub UpdateLaw : Type 0
+UpdateLaw = (cmp : ℕ → ℕ → Ordering) → IsTotalOrder cmp → ((j k : ℕ) → cmp j k ≡ Equal → j ≡ k) → MapLaw cmp
 
 -- eight empty slots stand for the empty map
 abbrev pub OpeningLaw : Type 0

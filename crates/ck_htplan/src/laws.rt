@@ -1,9 +1,22 @@
 //! The laws of a region's words. Each is a function whose contract it is.
-ghost use Rattle.ck_htplan.specs.Laws.{PlanLaw, SetLaw, RemoveLaw, RebuildLaw, RoomLaw, RebuiltRoomLaw, OpeningLaw};
+ghost use Rattle.ck_htplan.specs.Laws.{PlanLaw, SeekLaw, FoundLaw, UpdateLaw, SetLaw, RemoveLaw, RebuildLaw, RoomLaw, RebuiltRoomLaw, OpeningLaw};
 
 /// A key has one right plan, so `plan` is determined by the words.
 pub fn plan_law()
     ensures { PlanLaw }
+{}
+
+/// Where words stand for a map, the map gives a key the value of the slot that `seek` answers, and of the slot in which a plan found the
+/// key, and none where there is no such slot.
+pub fn value_law()
+    ensures sought { SeekLaw }
+    ensures found { FoundLaw }
+{}
+
+/// An update of a map of pairs changes what the map gives the key of the update, and nothing else. So the map after a `Set`, a `Put` or a
+/// `Del` is the one of which the laws of steps speak.
+pub fn update_law()
+    ensures { UpdateLaw }
 {}
 
 /// For each plan of a key on words that stand for a map: the words after each number of its steps stand for that map up to the update's

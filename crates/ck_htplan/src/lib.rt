@@ -11,5 +11,7 @@ mod probes;
 mod tests;
 
 pub use cases::Plan;
-pub use laws::{opening_law, plan_law, rebuild_law, remove_law, room_law, set_law};
+pub use laws::{
+    opening_law, plan_law, rebuild_law, remove_law, room_law, set_law, update_law, value_law,
+};
 pub use probes::{plan, seek};

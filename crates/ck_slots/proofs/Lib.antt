@@ -5,3 +5,4 @@ pub mod Fills
 pub mod Forms
 pub mod Parts
 pub mod Counts
+pub mod Maps

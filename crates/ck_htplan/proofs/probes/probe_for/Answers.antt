@@ -1,6 +1,5 @@
 use Rattle.std.proofs.Common.{◌≡◌, ℕ, ◌+◌, ◌^◌, ◌<◌, sym, refl, ap, ◌∙◌, subst, arith}
 use Rattle.std.proofs.lemmas.Nat.{one_shl}
-use Rattle.std.specs.Prelude.{None}
 use Rattle.ck_probe.specs.ProbeOrder.{slot_of}
 use Rattle.ck_slots.specs.Slots.{Holds}
 use Rattle.ck_htplan.specs.Region.{order_of, view_of}
