@@ -1,10 +1,12 @@
 -- What the words of a rebuilt region stand for, and how many of its slots are in use.
-use Rattle.std.proofs.Common.{◌≡◌, ◌≢◌, ℕ, zero, suc, ◌+◌, ◌-◌, ◌*◌, ◌^◌, ◌<◌, ◌≤◌, ⊎_elim, List, length, refl, sym, ap, ◌∙◌, subst, pow-add, mul_comm, arith}
-use Rattle.std.specs.Prelude.{Bool, true, false, cond, None, nat_lt, replicate}
-use Rattle.std.proofs.lemmas.Bool.{ltb-false}
-use Rattle.std.proofs.lemmas.List.{get_or-replicate}
+use Rattle.std.proofs.Common.{◌≡◌, ◌≢◌, ℕ, zero, suc, ◌+◌, ◌-◌, ◌*◌, ◌^◌, ◌<◌, ◌≤◌, ⊎_elim, inl, inr, List, length, refl, sym, ap, ◌∙◌, subst, pow-add, mul_comm, arith}
+use Rattle.std.specs.Prelude.{Bool, true, false, cond, None, nat_lt, replicate, slice_index, All}
+use Rattle.std.proofs.lemmas.Bool.{ltb-false, cases_lt}
+use Rattle.std.proofs.lemmas.List.{get_or-replicate, get_or_past, length-replicate}
 use Rattle.std.proofs.lemmas.Nat.{pow_pos}
 use Rattle.std.proofs.Math.Pow.{pow_mono}
+use mathlib.Core.Logic.{dite}
+use native.Mathlib.Decide.{ℕ_discrete}
 use Rattle.ck_slots.specs.Slots.{Holds, HasState, IsFirst}
 use Rattle.ck_slots.specs.Standing.{single, Pairs}
 use Rattle.ck_slots.specs.Holding.{IsHeld, parts}
@@ -13,10 +15,11 @@ use Rattle.ck_slots.proofs.Stores.{same_map}
 use Rattle.ck_slots.proofs.Fills.{room_at_empty}
 use Rattle.ck_slots.proofs.Forms.{held_stands, stands_held}
 use Rattle.ck_slots.proofs.Parts.{parts_full, parts_skip, parts_fresh, parts_all, blank}
-use Rattle.ck_slots.proofs.Counts.{another_empty, no_rebuild, used_none, used_more, used_below, count_used, count_here, count_else, count_mono}
+use Rattle.ck_slots.proofs.Firsts.{first_with}
+use Rattle.ck_slots.proofs.Counts.{one_empty, another_empty, no_rebuild, used_none, used_more, used_below, count_used, count_here, count_else, count_mono}
 use Rattle.ck_htplan.specs.Region.{order_of, view_of}
 use Rattle.ck_htplan.specs.Rebuild.{IsBlank, IsCopied, AreCopied, IsRebuilt}
-use Rattle.ck_htplan.specs.Laws.{IsRegion, HasOtherEmpty, RebuildLaw, RoomLaw, RebuiltRoomLaw, OpeningLaw}
+use Rattle.ck_htplan.specs.Laws.{IsRegion, HasOtherEmpty, RebuildLaw, CanRebuildLaw, RoomLaw, RebuiltRoomLaw, OpeningLaw}
 use Rattle.ck_htplan.proofs.Orders.{four, order_is}
 use Rattle.ck_htplan.proofs.Filling.{IsDraft, filled, filled_len, filled_others, filled_holds, filled_fresh}
 
@@ -89,12 +92,49 @@ module _ (c c' : ℕ) (hash : ℕ → ℕ) (old : List ℕ) (m : Pairs) (r : IsR
         (same_map (order_of c' hash) (view_of new) (parts (order_of c hash) (view_of old) (2 ^ c)) m (λ k. sym (parts_all (order_of c hash) (view_of old) m held k)) copy.held);
   }
 
+  -- each slot finds its place
+  module _ (small : (i : ℕ) → slice_index old i < 2 ^ 64) where
+    key_of : ℕ → ℕ
+    key_of j = slice_index old (4 * j + 1) + 2 ^ 64 * slice_index old (4 * j + 2)
+
+    holds_key : (j : ℕ) → j < 2 ^ c → (view_of old).state j ≡ 1 → Holds (order_of c hash) (view_of old) (key_of j) j
+    unfolding key_of
+    holds_key j l full = let low = small (4 * j + 1) in record { inside = l; full = full; is_low = omega arith; is_high = omega arith }
+
+    can_copy : (j : ℕ) → j ≤ 2 ^ c → (new : List ℕ) × AreCopied c c' hash old j new
+    can_copy zero l = (
+      replicate (2 ^ (c' + 2)) 0,
+      record { len = length-replicate (2 ^ (c' + 2)) 0; empty = λ s b. get_or-replicate (2 ^ (c' + 2)) (4 * s + 0) 0 0 (let e = four c' in omega arith) },
+    )
+    can_copy (suc j) l = next j l (can_copy j (omega arith))
+      where
+        next : (j : ℕ) → suc j ≤ 2 ^ c → (new : List ℕ) × AreCopied c c' hash old j new → (new : List ℕ) × AreCopied c c' hash old (suc j) new
+        next j l before = dite (ℕ_discrete ((view_of old).state j) 1)
+            (λ (full : (view_of old).state j ≡ 1).
+            let copy = copied j (omega arith) before.0 before.1 in
+            let hole = one_empty (view_of before.0).state (2 ^ c') (let a = copy.as_many in let b = room_left j (omega arith) full in omega arith) in
+            let at = first_with (order_of c' hash) (order_is c' hash c_low) (view_of before.0) (key_of j) 0 hole.0 hole.1 hole.2 in
+            (filled before.0 at.0 (key_of j) ((view_of old).value j), (before.0, before.1, inr (key_of j, holds_key j (omega arith) full, (at.0, at.1, refl)))))
+            (λ (n : (view_of old).state j ≢ 1). (before.0, (before.0, before.1, inl (n, refl))))
+
+    can_rebuild : (new : List ℕ) × IsRebuilt c c' hash old new
+    can_rebuild = can_copy (2 ^ c) (omega arith)
+
   -- another empty slot, where the new region has two slots more than there are keys
   rebuilt_room : (new : List ℕ) (s : ℕ) → IsRebuilt c c' hash old new → count (view_of old).state 1 (2 ^ c) + 2 ≤ 2 ^ c' → HasOtherEmpty c' new s
   rebuilt_room new s b room = let copy = copied (2 ^ c) (omega arith) new b in another_empty (view_of new).state s (2 ^ c') (let a = copy.as_many in omega arith)
 
 pub rebuild_law_holds : RebuildLaw
 rebuild_law_holds c c' hash old new m more r b = rebuilt c c' hash old m r more new b
+
+pub can_rebuild_law_holds : CanRebuildLaw
+can_rebuild_law_holds c c' hash old m more r small = can_rebuild c c' hash old m r more (small_of old small)
+  where
+    small_of : (words : List ℕ) → All (λ word. word < 2 ^ 64) words → (i : ℕ) → slice_index words i < 2 ^ 64
+    small_of words all i = elim (cases_lt i (length words)) [
+      | inl l ↦ all i 0 l
+      | inr past ↦ (let e = get_or_past words i 0 past in omega arith)
+    ]
 
 eight : (c : ℕ) → 3 ≤ c → 8 ≤ 2 ^ c
 eight c l = pow_mono {i = 3} {j = c} l

@@ -1,5 +1,5 @@
 -- The laws of a region's words. A region has 2 ^ c slots.
-use Rattle.std.specs.Prelude.{◌≡◌, ◌≢◌, ℕ, ◌+◌, ◌^◌, ◌<◌, ◌≤◌, ◌⊎◌, List, length, replicate, Option, Some, None, IsSome}
+use Rattle.std.specs.Prelude.{◌≡◌, ◌≢◌, ℕ, ◌+◌, ◌^◌, ◌<◌, ◌≤◌, ◌⊎◌, List, length, replicate, Option, Some, None, IsSome, All}
 use Rattle.std.specs.Option.{option_map}
 use Rattle.std.specs.declared.cmp.Ordering.{Ordering}
 use Rattle.std.specs.declared.cmp.Ordering.TheVariants.{Equal}
@@ -70,6 +70,10 @@ RemoveLaw = (c : ℕ) (hash : ℕ → ℕ) (words : List ℕ) (m m' : Pairs) (ke
 -- a rebuilt region of as many slots or more stands for the same map
 abbrev pub RebuildLaw : Type 0
 RebuildLaw = (c c' : ℕ) (hash : ℕ → ℕ) (old new : List ℕ) (m : Pairs) → c ≤ c' → IsRegion c hash old m → IsRebuilt c c' hash old new → IsRegion c' hash new m
+
+-- and every region of words of 64 bits can be rebuilt so
+abbrev pub CanRebuildLaw : Type 0
+CanRebuildLaw = (c c' : ℕ) (hash : ℕ → ℕ) (old : List ℕ) (m : Pairs) → c ≤ c' → IsRegion c hash old m → All (λ word. word < 2 ^ 64) old → (new : List ℕ) × IsRebuilt c c' hash old new
 
 -- Where a fresh key needs no rebuild, it doesn't take the last empty slot ..
 abbrev pub RoomLaw : Type 0

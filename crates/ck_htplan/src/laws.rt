@@ -1,5 +1,5 @@
 //! The laws of a region's words. Each is a function whose contract it is.
-ghost use Rattle.ck_htplan.specs.Laws.{PlanLaw, SeekLaw, FoundLaw, UpdateLaw, SetLaw, RemoveLaw, RebuildLaw, RoomLaw, RebuiltRoomLaw, OpeningLaw};
+ghost use Rattle.ck_htplan.specs.Laws.{PlanLaw, SeekLaw, FoundLaw, UpdateLaw, SetLaw, RemoveLaw, RebuildLaw, CanRebuildLaw, RoomLaw, RebuiltRoomLaw, OpeningLaw};
 
 /// A key has one right plan, so `plan` is determined by the words.
 pub fn plan_law()
@@ -32,9 +32,11 @@ pub fn remove_law()
     ensures { RemoveLaw }
 {}
 
-/// Words into which each full slot of a region was put, at the first empty slot of its key's order, stand for the map of that region.
+/// Words into which each full slot of a region was put, at the first empty slot of its key's order, stand for the map of that region. Each
+/// slot finds such a place.
 pub fn rebuild_law()
-    ensures { RebuildLaw }
+    ensures same_map { RebuildLaw }
+    ensures possible { CanRebuildLaw }
 {}
 
 /// A fresh key never takes the last empty slot: neither where at most three quarters of the slots are in use with it, nor after the

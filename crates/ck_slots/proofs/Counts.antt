@@ -79,3 +79,23 @@ pub count_mono : (f : ℕ → ℕ) (x d n : ℕ) → count f x n ≤ count f x (
 count_mono f x zero n = let e : zero + n ≡ n = omega arith in let a = ap (count f x) e in omega arith
 count_mono f x (suc d) n = let e : suc d + n ≡ suc (d + n) = omega arith in let a = ap (count f x) e in let r = count_mono f x d n in
     by_count (λ u. count f x (suc d + n) ≡ u → count f x n ≤ count f x (suc d + n)) f x (d + n) (λ z. λ y. omega arith) (λ z. λ y. omega arith) a
+
+count_same : (f h : ℕ → ℕ) (x n : ℕ) → ((t : ℕ) → t < n → h t ≡ f t) → count h x n ≡ count f x n
+count_same f h x zero e = refl
+count_same f h x (suc n) e = let a = count_same f h x n (λ t l. e t (omega arith)) in ap (λ (z : ℕ). cond (z == x) (suc (count h x n)) (count h x n)) (e n (omega arith)) ∙ ap (λ (z : ℕ). cond (f n == x) (suc z) z) a
+
+-- one slot more has the state x now, and with f and h exchanged one less
+pub count_more : (f h : ℕ → ℕ) (s x n : ℕ) → ((t : ℕ) → t ≢ s → h t ≡ f t) → f s ≢ x → h s ≡ x → s < n → count h x n ≡ suc (count f x n)
+count_more f h s x zero others ne is l = absurd (omega arith)
+count_more f h s x (suc n) others ne is l = dite (ℕ_discrete s n)
+    (λ (e : s ≡ n). let a = count_same f h x n (λ t b. others t (λ u. absurd (omega arith))) in
+      count_here h x n (ap h (sym e) ∙ is) ∙ (ap suc a ∙ ap suc (sym (count_else f x n (λ d. ne (ap f e ∙ d))))))
+    (λ (e : s ≢ n). let r = count_more f h s x n others ne is (omega arith) in let o : h n ≡ f n = others n (λ u. e (sym u)) in
+      by_count (λ u. u ≡ suc (count f x (suc n))) h x n (λ d. ap suc r ∙ ap suc (sym (count_here f x n (sym o ∙ d)))) (λ d. r ∙ ap suc (sym (count_else f x n (λ c. d (o ∙ c))))))
+
+-- a slot that changes between other states leaves the count
+pub count_kept : (f h : ℕ → ℕ) (s x n : ℕ) → ((t : ℕ) → t ≢ s → h t ≡ f t) → f s ≢ x → h s ≢ x → count h x n ≡ count f x n
+count_kept f h s x zero others a b = refl
+count_kept f h s x (suc n) others a b = let r = count_kept f h s x n others a b in dite (ℕ_discrete n s)
+    (λ (e : n ≡ s). count_else h x n (λ d. b (ap h (sym e) ∙ d)) ∙ (r ∙ sym (count_else f x n (λ d. a (ap f (sym e) ∙ d)))))
+    (λ (e : n ≢ s). by_count (λ u. u ≡ count f x (suc n)) h x n (λ d. ap suc r ∙ sym (count_here f x n (sym (others n e) ∙ d))) (λ d. r ∙ sym (count_else f x n (λ c. d (others n e ∙ c)))))
