@@ -18,7 +18,7 @@ use Rattle.ck_slots.proofs.Parts.{parts_full, parts_skip, parts_fresh, parts_all
 use Rattle.ck_slots.proofs.Firsts.{first_with}
 use Rattle.ck_slots.proofs.Counts.{one_empty, another_empty, no_rebuild, used_none, used_more, used_below, count_used, count_here, count_else, count_mono}
 use Rattle.ck_htplan.specs.Region.{order_of, view_of}
-use Rattle.ck_htplan.specs.Rebuild.{IsBlank, IsCopied, AreCopied, IsRebuilt}
+use Rattle.ck_htplan.specs.Rebuild.{IsBlank, IsPutIn, IsCopied, AreCopied, IsRebuilt}
 use Rattle.ck_htplan.specs.Laws.{IsRegion, HasOtherEmpty, RebuildLaw, CanRebuildLaw, RoomLaw, RebuiltRoomLaw, OpeningLaw}
 use Rattle.ck_htplan.proofs.Orders.{four, order_is}
 use Rattle.ck_htplan.proofs.Filling.{IsDraft, filled, filled_len, filled_others, filled_holds, filled_fresh}
@@ -101,21 +101,26 @@ module _ (c c' : ℕ) (hash : ℕ → ℕ) (old : List ℕ) (m : Pairs) (r : IsR
     unfolding key_of
     holds_key j l full = let low = small (4 * j + 1) in record { inside = l; full = full; is_low = omega arith; is_high = omega arith }
 
+    put_in : (words : List ℕ) (key value : ℕ) → ((at : ℕ) × IsFirst (order_of c' hash) key (HasState (view_of words) 0) at) → (new : List ℕ) × IsPutIn (order_of c' hash) key value words new
+    put_in words key value at = (filled words at.0 key value, (at.0, at.1, refl))
+
+    copy_next : (j : ℕ) → j < 2 ^ c → (words : List ℕ) → IsCopy j words → (new : List ℕ) × IsCopied c c' hash old j words new
+    copy_next j l words copy = dite (ℕ_discrete ((view_of old).state j) 1)
+        (λ (full : (view_of old).state j ≡ 1).
+        let hole = one_empty (view_of words).state (2 ^ c') (let a = copy.as_many in let b = room_left j l full in omega arith) in
+        let put = put_in words (key_of j) ((view_of old).value j) (first_with (order_of c' hash) (order_is c' hash c_low) (view_of words) (key_of j) 0 hole.0 hole.1 hole.2) in
+        (put.0, inr (key_of j, holds_key j l full, put.1)))
+        (λ (n : (view_of old).state j ≢ 1). (words, inl (n, refl)))
+
     can_copy : (j : ℕ) → j ≤ 2 ^ c → (new : List ℕ) × AreCopied c c' hash old j new
     can_copy zero l = (
       replicate (2 ^ (c' + 2)) 0,
       record { len = length-replicate (2 ^ (c' + 2)) 0; empty = λ s b. get_or-replicate (2 ^ (c' + 2)) (4 * s + 0) 0 0 (let e = four c' in omega arith) },
     )
-    can_copy (suc j) l = next j l (can_copy j (omega arith))
-      where
-        next : (j : ℕ) → suc j ≤ 2 ^ c → (new : List ℕ) × AreCopied c c' hash old j new → (new : List ℕ) × AreCopied c c' hash old (suc j) new
-        next j l before = dite (ℕ_discrete ((view_of old).state j) 1)
-            (λ (full : (view_of old).state j ≡ 1).
-            let copy = copied j (omega arith) before.0 before.1 in
-            let hole = one_empty (view_of before.0).state (2 ^ c') (let a = copy.as_many in let b = room_left j (omega arith) full in omega arith) in
-            let at = first_with (order_of c' hash) (order_is c' hash c_low) (view_of before.0) (key_of j) 0 hole.0 hole.1 hole.2 in
-            (filled before.0 at.0 (key_of j) ((view_of old).value j), (before.0, before.1, inr (key_of j, holds_key j (omega arith) full, (at.0, at.1, refl)))))
-            (λ (n : (view_of old).state j ≢ 1). (before.0, (before.0, before.1, inl (n, refl))))
+    can_copy (suc j) l =
+        let before = can_copy j (omega arith) in
+        let next = copy_next j (omega arith) before.0 (copied j (omega arith) before.0 before.1) in
+        (next.0, (before.0, before.1, next.1))
 
     can_rebuild : (new : List ℕ) × IsRebuilt c c' hash old new
     can_rebuild = can_copy (2 ^ c) (omega arith)
