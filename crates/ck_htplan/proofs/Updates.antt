@@ -51,13 +51,13 @@ module _ (c : ℕ) (hash : ℕ → ℕ) (words : List ℕ) (m : Pairs) (r : IsRe
     fresh_all : (at : ℕ) → HasRoom (order_of c hash) (view_of words) key at → m key ≡ None → StandFor (order_of c hash) (view_of (filled words at key value)) single m'
     fresh_all at room none = held_stands (order_of c hash) (view_of (filled words at key value)) m' single (filled_fresh c hash r.some_lines m key at words value (drafted at room) m' u none)
 
-    set_empty : (at : ℕ) → HasRoom (order_of c hash) (view_of words) key at → m key ≡ None → StandAlong (order_of c hash) words (steps_of (Empty at) key value) 4 (copies_after (Empty at) key) m m'
+    set_empty : (at : ℕ) → HasRoom (order_of c hash) (view_of words) key at → m key ≡ None → StandAlong c hash words (steps_of (Empty at) key value) 4 (copies_after (Empty at) key) m m'
     set_empty at room none = record {
       before = fill_before c hash r.some_lines m key at words value (drafted at room);
       since = λ n l. all_steps (fill at key value) n l single m' (fresh_all at room none);
     }
 
-    set_reuse : (at : ℕ) → HasRoom (order_of c hash) (view_of words) key at → m key ≡ None → StandAlong (order_of c hash) words (steps_of (Reuse at) key value) 5 (copies_after (Reuse at) key) m m'
+    set_reuse : (at : ℕ) → HasRoom (order_of c hash) (view_of words) key at → m key ≡ None → StandAlong c hash words (steps_of (Reuse at) key value) 5 (copies_after (Reuse at) key) m m'
     set_reuse at room none = record { before = before; since = λ n l. all_steps (steps_of (Reuse at) key value) n l single m' (fresh_all at room none) }
       where
         before : (n : ℕ) → n < 5 → StandFor (order_of c hash) (view_of (after words (take n (steps_of (Reuse at) key value)))) single m
@@ -65,7 +65,7 @@ module _ (c : ℕ) (hash : ℕ → ℕ) (words : List ℕ) (m : Pairs) (r : IsRe
         before (suc n) l = fill_before c hash r.some_lines m key at words value (drafted at room) n (omega arith)
 
     set_move : (to from : ℕ) → HasRoom (order_of c hash) (view_of words) key to → Holds (order_of c hash) (view_of words) key from → (order_of c hash).step key to < (order_of c hash).step key from
-        → StandAlong (order_of c hash) words (steps_of (Move to from) key value) 5 (copies_after (Move to from) key) m m'
+        → StandAlong c hash words (steps_of (Move to from) key value) 5 (copies_after (Move to from) key) m m'
     set_move to from room stood earlier = record { before = before; since = since }
       where
         moved : IsHeld (order_of c hash) (view_of (filled words to key value)) (double key to from) m'
@@ -99,7 +99,7 @@ module _ (c : ℕ) (hash : ℕ → ℕ) (words : List ℕ) (m : Pairs) (r : IsRe
         since (suc (suc (suc (suc (suc (suc (suc n))))))) l = all_steps (steps_of (Move to from) key value) (suc (suc (suc (suc (suc (suc (suc n))))))) (omega arith) (copies_after (Move to from) key (suc (suc (suc (suc (suc (suc (suc n)))))))) m'
             (subst (λ (b : Bool). StandFor (order_of c hash) (view_of (after words (steps_of (Move to from) key value))) (cond b (double key to from) single) m') (sym (le-ltb (suc (suc (suc (suc (suc (suc (suc n))))))) 7 (omega arith))) once)
 
-    set_stand : (at : ℕ) → Holds (order_of c hash) (view_of words) key at → StandAlong (order_of c hash) words (steps_of (Stand at) key value) 1 (copies_after (Stand at) key) m m'
+    set_stand : (at : ℕ) → Holds (order_of c hash) (view_of words) key at → StandAlong c hash words (steps_of (Stand at) key value) 1 (copies_after (Stand at) key) m m'
     set_stand at stood = record { before = before; since = λ n l. all_steps (steps_of (Stand at) key value) n l single m' replaced }
       where
         here : (view_of (set words (4 * at + 3) value)).value at ≡ value
@@ -123,7 +123,7 @@ module _ (c : ℕ) (hash : ℕ → ℕ) (words : List ℕ) (m : Pairs) (r : IsRe
         before zero l = r.stand
         before (suc n) l = absurd (omega arith)
 
-    sets : (p : Plan) → IsPlan (order_of c hash) (view_of words) key p → LeavesEmpty c words p → StandAlong (order_of c hash) words (steps_of p key value) (place_of p) (copies_after p key) m m'
+    sets : (p : Plan) → IsPlan (order_of c hash) (view_of words) key p → LeavesEmpty c words p → StandAlong c hash words (steps_of p key value) (place_of p) (copies_after p key) m m'
     sets (Empty at) p other =
         let first : IsEnd (order_of c hash) (view_of words) key at = subst (IsEnd (order_of c hash) (view_of words) key) (sym p.2.0) p.1 in
         set_empty at (room_at_empty (order_of c hash) (view_of words) key at first.inside first.here first.none_before other) (absent p.0 p.1 p.2.1)
@@ -138,7 +138,7 @@ module _ (c : ℕ) (hash : ℕ → ℕ) (words : List ℕ) (m : Pairs) (r : IsRe
         stood p.2.1.1.earlier
 
   -- a removal
-  removed : (key at : ℕ) (m' : Pairs) → Holds (order_of c hash) (view_of words) key at → IsUpdate m m' key None → StandAlong (order_of c hash) words (removal at) 1 (λ n. single) m m'
+  removed : (key at : ℕ) (m' : Pairs) → Holds (order_of c hash) (view_of words) key at → IsUpdate m m' key None → StandAlong c hash words (removal at) 1 (λ n. single) m m'
   removed key at m' stood u = record { before = before; since = since }
     where
       gone : StandFor (order_of c hash) (view_of (set words (4 * at + 0) 2)) single m'

@@ -1,5 +1,5 @@
 -- The laws of a region's words. A region has 2 ^ c slots.
-use Rattle.std.specs.Prelude.{◌≡◌, ◌≢◌, ℕ, ◌+◌, ◌^◌, ◌<◌, ◌≤◌, ◌⊎◌, List, length, replicate, Option, Some, None, IsSome, All}
+use Rattle.std.specs.Prelude.{◌≡◌, ◌≢◌, ℕ, ◌+◌, ◌^◌, ◌<◌, ◌≤◌, ◌⊎◌, ◌↔◌, List, length, replicate, Option, Some, None, IsSome, All}
 use Rattle.std.specs.Option.{option_map}
 use Rattle.std.specs.declared.cmp.Ordering.{Ordering}
 use Rattle.std.specs.declared.cmp.Ordering.TheVariants.{Equal}
@@ -7,12 +7,13 @@ use Rattle.std.specs.Cmp.{IsTotalOrder}
 use Rattle.ck_history.specs.Map.{Map, IsMap, find, step}
 use Rattle.ck_history.specs.declared.update.Update.TheVariants.{Set, Put, Del}
 use Rattle.ck_slots.specs.Slots.{Holds}
-use Rattle.ck_slots.specs.Standing.{single, Pairs, StandFor}
+use Rattle.ck_slots.specs.Standing.{Copies, single, Pairs}
+use Rattle.ck_slots.specs.Holding.{IsHeld}
 use Rattle.ck_slots.specs.Changes.{IsUpdate}
 use Rattle.ck_slots.specs.Counting.{count, NeedsNoRebuild}
 use Rattle.ck_htplan.specs.declared.cases.Plan.{Plan}
 use Rattle.ck_htplan.specs.declared.cases.Plan.TheVariants.{Empty, Reuse, Stand, Move}
-use Rattle.ck_htplan.specs.Region.{order_of, view_of}
+use Rattle.ck_htplan.specs.Region.{order_of, view_of, WordsStandFor}
 use Rattle.ck_htplan.specs.Plans.{IsPlan, IsSought}
 use Rattle.ck_htplan.specs.Steps.{steps_of, removal, place_of, copies_after, StandAlong}
 use Rattle.ck_htplan.specs.Rebuild.{IsRebuilt, rebuilt_log}
@@ -21,7 +22,7 @@ use Rattle.ck_htplan.specs.Rebuild.{IsRebuilt, rebuilt_log}
 pub record IsRegion (c : ℕ) (hash : ℕ → ℕ) (words : List ℕ) (m : Pairs) : Type 0 where
   pub some_lines : 3 ≤ c
   pub len : length words ≡ 2 ^ (c + 2)
-  pub stand : StandFor (order_of c hash) (view_of words) single m
+  pub stand : WordsStandFor c hash words single m
 
 -- a slot other than this one is empty
 abbrev pub HasOtherEmpty : ℕ → List ℕ → ℕ → Type 0
@@ -33,6 +34,10 @@ LeavesEmpty c words (Empty at) = HasOtherEmpty c words at
 LeavesEmpty c words (Reuse at) = Unit {0}
 LeavesEmpty c words (Stand at) = Unit {0}
 LeavesEmpty c words (Move to from) = Unit {0}
+
+-- the form that proofs keep store by store says the same
+abbrev pub FormLaw : Type 0
+FormLaw = (c : ℕ) (hash : ℕ → ℕ) (words : List ℕ) (copies : Copies) (m : Pairs) → WordsStandFor c hash words copies m ↔ IsHeld (order_of c hash) (view_of words) copies m
 
 -- the slot in which a plan found the key
 abbrev pub found_by : Plan → Option ℕ
@@ -59,13 +64,13 @@ PlanLaw = (c : ℕ) (hash : ℕ → ℕ) (words : List ℕ) (key : ℕ) (p q : P
 abbrev pub SetLaw : Type 0
 SetLaw = (c : ℕ) (hash : ℕ → ℕ) (words : List ℕ) (m m' : Pairs) (key value : ℕ) (p : Plan) → IsRegion c hash words m
     → IsPlan (order_of c hash) (view_of words) key p → LeavesEmpty c words p → IsUpdate m m' key (Some value)
-    → StandAlong (order_of c hash) words (steps_of p key value) (place_of p) (copies_after p key) m m'
+    → StandAlong c hash words (steps_of p key value) (place_of p) (copies_after p key) m m'
 
 -- and of a removal
 abbrev pub RemoveLaw : Type 0
 RemoveLaw = (c : ℕ) (hash : ℕ → ℕ) (words : List ℕ) (m m' : Pairs) (key at : ℕ) → IsRegion c hash words m
     → Holds (order_of c hash) (view_of words) key at → IsUpdate m m' key None
-    → StandAlong (order_of c hash) words (removal at) 1 (λ n. single) m m'
+    → StandAlong c hash words (removal at) 1 (λ n. single) m m'
 
 -- a rebuilt region of as many slots or more stands for the same map
 abbrev pub RebuildLaw : Type 0
