@@ -3,3 +3,4 @@ pub mod Standing
 pub mod Holding
 pub mod Changes
 pub mod Counting
+pub mod Keeping
