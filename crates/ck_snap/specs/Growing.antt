@@ -5,7 +5,7 @@ use Rattle.ck_history.specs.declared.log.LogEntry.{LogEntry}
 use Rattle.ck_snap.specs.Log.{Log}
 
 -- which log, and the part of it that was reached
-pub record Reached : Type 0 where
+pub record LogPart : Type 0 where
   pub book : Book
   pub log : Log
 

@@ -3,7 +3,7 @@ use Rattle.std.specs.Prelude.{◌≡◌, [], drop, Some}
 use Rattle.left_right.specs.Sides.{view}
 use Rattle.ck_snap.specs.declared.publisher.Publisher.TheInside.{Inside}
 use Rattle.ck_snap.specs.declared.version.Version.{Version}
-use Rattle.ck_snap.specs.Growing.{Reached}
+use Rattle.ck_snap.specs.Growing.{LogPart}
 use Rattle.ck_snap.specs.Version.{log_of, book_of}
 use Rattle.ck_snap.specs.Copies.{snapshot_of}
 
@@ -11,7 +11,7 @@ use Rattle.ck_snap.specs.Copies.{snapshot_of}
 abbrev pub published : Inside → Version
 published p = p.writer.desk.shown.value.version
 
-abbrev pub published_by : Inside → Reached
+abbrev pub published_by : Inside → LogPart
 published_by p = record { book = book_of (published p); log = log_of (published p) }
 
 -- the published copy is the map of its version, its version is the publisher's, and nothing is pending

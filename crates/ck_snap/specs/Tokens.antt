@@ -10,8 +10,8 @@ use Rattle.ck_history.specs.declared.log.Placed.{Placed}
 use Rattle.ck_history.specs.declared.update.Update.{Update}
 use Rattle.ck_history.specs.declared.update.Reply.{Reply}
 use Rattle.ck_history.specs.Map.{find, step}
-use Rattle.ck_snap.specs.declared.journal.Deed.{Deed}
-use Rattle.ck_snap.specs.declared.journal.Deed.TheVariants.{Updated}
+use Rattle.ck_snap.specs.declared.journal.Event.{Event}
+use Rattle.ck_snap.specs.declared.journal.Event.TheVariants.{Updated}
 use Rattle.ck_snap.specs.Log.{Log, capacity, map_after, AreReplies}
 use Rattle.ck_snap.specs.Places.{updates_of, answers_of, ArePlaced}
 
@@ -28,7 +28,7 @@ pub record Dictionary : Type 0 where
 -- the writer: its dictionary, what was done with it, the updates that readers see from now on, and the number of its counted calls
 pub record WriterView : Type 0 where
   pub origin : Origin
-  pub done : List Deed
+  pub done : List Event
   pub published : Log
   pub calls : ℕ
 
@@ -38,7 +38,7 @@ pub record PassView : Type 0 where
   pub origin : Origin
   pub number : ℕ
   pub seen : Log
-  pub done : List Deed
+  pub done : List Event
   pub enters : ℕ
   pub calls : ℕ
 

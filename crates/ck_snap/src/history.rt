@@ -79,9 +79,9 @@ pub struct Prefix {
 
 impl Model for Prefix {
     ghost use Rattle.std.specs.Prelude.{◌≡◌, ◌≤◌, ◌^◌, length};
-    ghost use Rattle.ck_snap.specs.Growing.{Reached};
+    ghost use Rattle.ck_snap.specs.Growing.{LogPart};
 
-    ghost Value = { Reached };
+    ghost Value = { LogPart };
 
     ghost view = { λ p. record { book = p.seen.book; log = p.seen.log } };
 

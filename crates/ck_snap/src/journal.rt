@@ -10,7 +10,7 @@ use std::marker::{Brand, Model, PhantomData};
 
 /// An entry of a journal. Only contracts speak of it.
 #[derive(Drop)]
-pub enum Deed {
+pub enum Event {
     /// An answered update.
     Updated(LogEntry<Key>),
     /// `answered` told of this reader that it has so many answers.
@@ -24,7 +24,7 @@ pub enum Deed {
 /// The rule of the word says nothing: each view is a journal.
 pub struct Each;
 
-impl TableRule<(), LinkedList<Deed>, ()> for Each {
+impl TableRule<(), LinkedList<Event>, ()> for Each {
     ghost use Rattle.std.specs.Prelude.{[]};
 
     ghost holds = { λ state key. Unit {0} };
@@ -34,28 +34,28 @@ impl TableRule<(), LinkedList<Deed>, ()> for Each {
 
 /// The entry that a step puts down.
 pub trait Appended {
-    ghost use Rattle.ck_snap.specs.declared.journal.Deed.{Deed};
+    ghost use Rattle.ck_snap.specs.declared.journal.Event.{Event};
 
-    ghost deed: { Deed };
+    ghost event: { Event };
 }
 
 impl Appended for Brand {
-    ghost use Rattle.ck_snap.specs.declared.journal.Deed.TheVariants.{Told};
+    ghost use Rattle.ck_snap.specs.declared.journal.Event.TheVariants.{Told};
 
-    ghost deed = { Told 0 0 };
+    ghost event = { Told 0 0 };
 }
 
 struct Appends<D> {
     of: PhantomData<D>,
 }
 
-impl<D: Appended> Play<(), LinkedList<Deed>> for Appends<D> {
-    ghost then = { λ s v n w. w ≡ (v.0 ++ D.deed ∷ [], v.1) };
+impl<D: Appended> Play<(), LinkedList<Event>> for Appends<D> {
+    ghost then = { λ s v n w. w ≡ (v.0 ++ D.event ∷ [], v.1) };
 }
 
 struct Fresh;
 
-impl Split<LinkedList<Deed>> for Fresh {
+impl Split<LinkedList<Event>> for Fresh {
     ghost left = { λ v. v };
 
     ghost right = { λ v. [] };
@@ -64,7 +64,7 @@ impl Split<LinkedList<Deed>> for Fresh {
 /// A token's journal.
 #[derive(Drop)]
 pub struct Journal {
-    seat: Seat<(), LinkedList<Deed>>,
+    seat: Seat<(), LinkedList<Event>>,
 }
 
 impl Model for Journal {
@@ -81,7 +81,7 @@ impl Model for Journal {
 /// The word under all journals of a dictionary.
 #[derive(Drop)]
 pub struct Journals {
-    table: Table<(), LinkedList<Deed>, (), Each, Global>,
+    table: Table<(), LinkedList<Event>, (), Each, Global>,
 }
 
 impl Model for Journals {
@@ -114,19 +114,19 @@ impl Journals {
         Journal { seat }
     }
 
-    fn append_as<D: Appended>(&self, journal: &mut Journal, deed: &Deed)
+    fn append_as<D: Appended>(&self, journal: &mut Journal, event: &Event)
         requires { journal.old.journals ≡ self.now }
-        ensures { journal.new ≡ record journal.old { done = journal.old.done ++ D.deed ∷ [] } }
+        ensures { journal.new ≡ record journal.old { done = journal.old.done ++ D.event ∷ [] } }
     {
-        let _ = deed;
+        let _ = event;
         self.table.shared.load::<Appends<D>>(&mut journal.seat, 0);
     }
 
     /// Puts the entry down, by one load.
-    pub fn append(&self, journal: &mut Journal, deed: &Deed)
+    pub fn append(&self, journal: &mut Journal, event: &Event)
         requires { journal.old.journals ≡ self.now }
-        ensures { journal.new ≡ record journal.old { done = journal.old.done ++ deed.now ∷ [] } }
+        ensures { journal.new ≡ record journal.old { done = journal.old.done ++ event.now ∷ [] } }
     {
-        self.append_as::<Brand>(journal, deed);
+        self.append_as::<Brand>(journal, event);
     }
 }

@@ -17,5 +17,5 @@ mod tying;
 mod version;
 mod writing;
 
-pub use journal::Deed;
+pub use journal::Event;
 pub use tokens::{Snap, SnapPass, SnapWriter};

@@ -3,7 +3,7 @@ ghost use Rattle.std.specs.Prelude.{◌≡◌, ◌<◌, ◌≤◌, ◌^◌, ◌�
 ghost use Rattle.std.specs.Ordering.{nat_cmp};
 ghost use Rattle.left_right.specs.Sides.{view};
 ghost use Rattle.ck_history.specs.Map.{step};
-ghost use Rattle.ck_snap.specs.Growing.{Reached};
+ghost use Rattle.ck_snap.specs.Growing.{LogPart};
 ghost use Rattle.ck_snap.specs.Log.{capacity, map_after};
 ghost use Rattle.ck_snap.specs.Version.{log_of, last_of, book_of, Follows};
 ghost use Rattle.ck_snap.specs.Copies.{snapshot_of, Known};
@@ -33,10 +33,10 @@ pub struct Publisher {
 }
 
 impl Model for Publisher {
-    ghost use Rattle.ck_snap.specs.Growing.{Reached};
+    ghost use Rattle.ck_snap.specs.Growing.{LogPart};
     ghost use Rattle.ck_snap.specs.Publishing.{published_by, IsPublisher};
 
-    ghost Value = { Reached };
+    ghost Value = { LogPart };
 
     ghost view = { published_by };
 

@@ -1,17 +1,17 @@
 //! The calls of the readers.
 ghost use Rattle.std.specs.Prelude.{◌≡◌, ◌+◌, ◌<◌, ◌≤◌, ◌^◌, ◌++◌, ◌∷◌, [], length, IfErr, OnOk};
 ghost use mathlib.Core.List.{IsPrefix};
-ghost use Rattle.ck_snap.specs.declared.journal.Deed.TheVariants.{Answered, Reached};
+ghost use Rattle.ck_snap.specs.declared.journal.Event.TheVariants.{Answered, Reached};
 ghost use Rattle.ck_snap.specs.Places.{ArePlaced};
 ghost use Rattle.ck_snap.specs.Tokens.{IsPassOf, mine, placed, look_of};
 
-use crate::journal::Deed;
+use crate::journal::Event;
 use crate::tokens::{Snap, SnapPass};
 use ck_history::{Key, Look, Placed};
 use std::sync::Wait;
 
 impl Snap {
-    /// The key's value, or that it is absent, after all updates that are published at the enter that this call makes. Never `Again`.
+    /// The key's value, or that it is absent, after all updates that the pass sees at the enter that this call makes. Never `Again`.
     pub fn look<R: Wait>(&self, rt: &R, pass: &mut SnapPass, key: Key) -> Look
         requires token { IsPassOf self.now pass.old }
         requires calls { pass.old.calls < 2 ^ 40 }
@@ -23,8 +23,8 @@ impl Snap {
     {
         let answer = pass.subscriber.look(rt, key);
         let place = pass.subscriber.version().count();
-        let deed = Deed::Answered(Placed { key, answer, place });
-        self.journals.append(&mut pass.journal, &deed);
+        let event = Event::Answered(Placed { key, answer, place });
+        self.journals.append(&mut pass.journal, &event);
         pass.calls += 1;
         match answer {
             Some(value) => Look::Found(value),
@@ -32,7 +32,7 @@ impl Snap {
         }
     }
 
-    /// Whether at least `n` updates are published at the enter that this call makes. `Err` tells how many are.
+    /// Whether the pass sees at least `n` updates at the enter that this call makes. `Err` tells how many it sees.
     pub fn reached<R: Wait>(&self, rt: &R, pass: &mut SnapPass, n: u64) -> Result<(), u64>
         requires token { IsPassOf self.now pass.old }
         ensures later { IsPrefix pass.old.seen pass.new.seen }
@@ -46,7 +46,7 @@ impl Snap {
         let count = pass.subscriber.version().count();
         let result = if n <= count { Ok(()) } else { Err(count) };
         self.journals
-            .append(&mut pass.journal, &Deed::Reached(n, result));
+            .append(&mut pass.journal, &Event::Reached(n, result));
         result
     }
 }

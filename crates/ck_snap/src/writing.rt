@@ -1,11 +1,11 @@
 //! The calls of the writer.
 ghost use Rattle.std.specs.Prelude.{◌≡◌, ◌<◌, ◌^◌, ◌++◌, ◌∷◌, [], IfOk, OnErr};
 ghost use Rattle.ck_history.specs.declared.update.Update.TheVariants.{Set, Put, Del, Tidy};
-ghost use Rattle.ck_snap.specs.declared.journal.Deed.TheVariants.{Told};
+ghost use Rattle.ck_snap.specs.declared.journal.Event.TheVariants.{Told};
 ghost use Rattle.ck_snap.specs.Log.{map_after};
 ghost use Rattle.ck_snap.specs.Tokens.{IsWriterOf, IsCurrent, HasUpdated, log};
 
-use crate::journal::Deed;
+use crate::journal::Event;
 use crate::tokens::{Snap, SnapWriter};
 use ck_history::{Key, LogEntry, Reply, Update};
 use std::alloc::{AllocError, Global};
@@ -78,8 +78,8 @@ impl Snap {
         ensures err { OnErr result (w.new ≡ w.old) }
     {
         let reply = w.publisher.update(rt, &self.length, &update)?;
-        let deed = Deed::Updated(LogEntry { update, reply });
-        self.journals.append(&mut w.journal, &deed);
+        let event = Event::Updated(LogEntry { update, reply });
+        self.journals.append(&mut w.journal, &event);
         w.calls += 1;
         Ok(reply)
     }
@@ -90,7 +90,8 @@ impl Snap {
         ensures zero { result ≡ 0 }
         ensures writer { w.new ≡ record w.old { done = w.old.done ++ Told reader 0 ∷ [] } }
     {
-        self.journals.append(&mut w.journal, &Deed::Told(reader, 0));
+        self.journals
+            .append(&mut w.journal, &Event::Told(reader, 0));
         0
     }
 

@@ -1,5 +1,5 @@
 use Rattle.std.proofs.Common.{sym, ◌∙◌, ap}
-use Rattle.ck_snap.specs.Growing.{Reached}
+use Rattle.ck_snap.specs.Growing.{LogPart}
 use Rattle.ck_snap.proofs.Adding.{adds_moves}
 use Rattle.ck_snap.proofs.history.Prefix.with.Goals as goal
 
@@ -9,7 +9,7 @@ compare_exchange-found-requires c =
     let seen = c.again-seen.ensures in
     let offer = c.plain-offer.ensures in
     let pen = c.no_pen-pen.ensures in
-    let book = ap (λ s. s.book) seen ∙ (ap (λ (r : Reached). r.book) c.self.view_is ∙ (c.requires.book ∙ sym c.word.view_is)) in (
+    let book = ap (λ s. s.book) seen ∙ (ap (λ (r : LogPart). r.book) c.self.view_is ∙ (c.requires.book ∙ sym c.word.view_is)) in (
       ap (λ w. w.tracked) word,
       book,
       pen.0 ∙ book,

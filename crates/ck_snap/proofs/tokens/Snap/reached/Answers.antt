@@ -1,6 +1,6 @@
 use Rattle.std.proofs.Common.{◌≡◌, ◌∙◌, ◌≤◌, ◌++◌, ◌∷◌, [], length, ap, arith}
 use Rattle.std.proofs.lemmas.List.{append-nil}
-use Rattle.ck_snap.specs.declared.journal.Deed.TheVariants.{Reached}
+use Rattle.ck_snap.specs.declared.journal.Event.TheVariants.{Reached}
 use Rattle.ck_snap.specs.Journal.{JournalView}
 use Rattle.ck_snap.specs.Log.{Log}
 use Rattle.ck_snap.specs.Places.{answers_of, ArePlaced}
@@ -18,7 +18,7 @@ returns-clause-placed g c =
     let count : c.count-count.result ≡ length seen = c.count-count.ensures ∙ ap (λ (l : Log). length l) c.version.ensures.1 in
     let placed : ArePlaced seen 0 (ds ++ Reached n c.if-n-count.result ∷ []) = elim c.if-n-count.branch [
       | then-n-count w ↦ (let le : n ≤ length seen = omega (arith, w.if-n-count.true) in rw w.result-is (placed_reached old seen c.see.ensures.later ds c.pass.invariant n le))
-      | else-n-count w ↦ rw w.result-is (placed_waits old seen c.see.ensures.later ds c.pass.invariant n c.count-count.result)
+      | else-n-count w ↦ rw w.result-is (placed_waits old seen c.see.ensures.later ds c.pass.invariant n c.count-count.result (omega (arith, count)))
     ] in
     rw (ap (λ (j : JournalView). j.done) c.append.ensures) placed
 

@@ -3,7 +3,7 @@ use Rattle.std.proofs.lemmas.List.{append-nil}
 use mathlib.Core.List.{IsPrefix}
 use Rattle.logbook.specs.Pages.{Book}
 use Rattle.ck_snap.specs.Tokens.{PassView}
-use Rattle.ck_snap.specs.Growing.{Reached}
+use Rattle.ck_snap.specs.Growing.{LogPart}
 use Rattle.ck_snap.specs.Copies.{Known}
 use Rattle.ck_snap.specs.Log.{Log, AreReplies}
 use Rattle.ck_snap.specs.Version.{log_of}
@@ -23,11 +23,11 @@ returns-clause-ok g c =
     let pass = c.pass.inside in
     let published = c.in_ok-publish.ensures.ok in
     let end = c.catch_up.ensures.end in
-    let kept : c.publish.new.self.log ≡ w.publisher.log = ap (λ (r : Reached). r.log) published ∙ append-nil w.publisher.log in
+    let kept : c.publish.new.self.log ≡ w.publisher.log = ap (λ (r : LogPart). r.log) published ∙ append-nil w.publisher.log in
     let whole : log_of c.version.result.now ≡ updates_of w.journal.done =
     c.version.ensures.1 ∙ (kept ∙ sym c.w.invariant.log) in
     let later : IsPrefix pass.subscriber.log (updates_of w.journal.done) = subst (λ (l : Log). IsPrefix pass.subscriber.log l) whole c.catch_up.ensures.later in
-    let book = ap (λ (r : Reached). r.book) published in
+    let book = ap (λ (r : LogPart). r.book) published in
     let known = ap (λ (k : Known). k.book) end in
     let seen = ap (λ (k : Known). k.log) end ∙ whole in
     let ended : Book → Log → PassView = λ b l. record {

@@ -1,6 +1,6 @@
 use Rattle.std.proofs.Common.{◌≡◌, ◌∙◌, ℕ, ◌++◌, ◌∷◌, [], length, sym, ap, subst, arith, length-append}
 use Rattle.ck_history.specs.declared.log.LogEntry.{LogEntry}
-use Rattle.ck_snap.specs.Growing.{Reached}
+use Rattle.ck_snap.specs.Growing.{LogPart}
 use Rattle.ck_snap.specs.Journal.{JournalView}
 use Rattle.std.specs.Ordering.{nat_cmp}
 use Rattle.ck_history.specs.Map.{step}
@@ -15,7 +15,7 @@ invariant_of-w-2 g c =
     let done = c.w.inside.journal.done in
     let old = c.w.inside.publisher.log in
     let e : LogEntry ℕ = record { update = c.args.update; reply = c.in_ok-reply.reply } in
-    let log : c.update.new.self.log ≡ old ++ e ∷ [] = ap (λ (r : Reached). r.log) c.in_ok-reply.ensures.ok in
+    let log : c.update.new.self.log ≡ old ++ e ∷ [] = ap (λ (r : LogPart). r.log) c.in_ok-reply.ensures.ok in
     let updates : updates_of c.append.new.journal.done ≡ updates_of done ++ e ∷ [] = ap (λ (j : JournalView). updates_of j.done) c.append.ensures ∙ updates_of-append done _ in
     record {
       log = updates ∙ (ap (λ (l : Log). l ++ e ∷ []) c.w.invariant.log ∙ sym log);
@@ -27,7 +27,7 @@ pub returns-clause-ok : goal.returns-clause-ok
 returns-clause-ok g c =
     let done = c.w.inside.journal.done in
     let kept = invariant_of-w-2 g c in
-    let book = ap (λ (r : Reached). r.book) c.in_ok-reply.ensures.ok in
+    let book = ap (λ (r : LogPart). r.book) c.in_ok-reply.ensures.ok in
     let journals = ap (λ (j : JournalView). j.journals) c.append.ensures in
     let whole = ap (λ (j : JournalView). j.done) c.append.ensures in
     let published = sym kept.log in
