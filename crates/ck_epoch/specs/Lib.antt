@@ -1,3 +1,5 @@
 pub mod Lists
 pub mod State
 pub mod Client
+pub mod Epochs
+pub mod Held

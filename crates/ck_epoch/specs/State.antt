@@ -87,7 +87,8 @@ pub record Retirement : Type 0 where
   pub retired : Retired
 
 -- What a token did, by its account: `steps` are all its entries, and `calls` its counted calls. A pass has the record `rec`. The writer
--- knows the global epoch, the items that are pending, in order of retirement, and those that it dispatched, in order of dispatch
+-- knows the global epoch, the items that are pending, in order of retirement, those that it dispatched, in order of dispatch, and the first
+-- entry of its last `synchronize` or `barrier` that is done
 pub record TokenState : Type 0 where
   pub stage : Stage
   pub rec : ℕ
@@ -96,10 +97,11 @@ pub record TokenState : Type 0 where
   pub epoch : ℕ
   pub pending : List Retirement
   pub dispatched : List Retirement
+  pub waited : Option ℕ
 
 -- before the first step
 abbrev pub initial : Stage → ℕ → TokenState
-initial g r = record { stage = g; rec = r; steps = 0; calls = 0; epoch = 4; pending = []; dispatched = [] }
+initial g r = record { stage = g; rec = r; steps = 0; calls = 0; epoch = 4; pending = []; dispatched = []; waited = None }
 
 abbrev pub start : ℕ → TokenState
 start zero = initial free 0
@@ -178,7 +180,7 @@ module _ (records : ℕ) where
   abbrev pub after_raise : TokenState → Task → ℕ → TokenState
   after_raise t polling e = record (dispatch (e - 1) t) { stage = free; epoch = e + 1 }
   after_raise t (first_round all started) e = record t { stage = between all started; epoch = e + 1 }
-  after_raise t (second_round all started) e = cond all (record (dispatch_all t) { stage = free; epoch = e + 1 }) (record t { stage = free; epoch = e + 1 })
+  after_raise t (second_round all started) e = record (cond all (dispatch_all t) t) { stage = free; epoch = e + 1; waited = Some started }
 
   -- after any step, by the stage before it
   abbrev pub after_step : TokenState → List ℕ → List ℕ → Stage → Step → TokenState
