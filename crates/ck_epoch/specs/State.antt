@@ -162,7 +162,7 @@ is_clear task busy = false
 module _ (records : ℕ) where
   -- after the writer's load of the global epoch e, by which it retires an item, or begins a poll or a first round
   abbrev pub after_load : TokenState → List ℕ → List ℕ → ℕ → TokenState
-  after_load t opens (at ∷ log ∷ rest) e = record t { calls = t.calls + 1; pending = t.pending ++ retirement t.steps at log e ∷ [] }
+  after_load t opens (at ∷ log ∷ rest) e = record t { stage = free; calls = t.calls + 1; pending = t.pending ++ retirement t.steps at log e ∷ [] }
   after_load t opens item e = cond (slice_index opens 0 == poll)
       (record (dispatch (e - 2) t) { stage = scanning polling e 0 None; calls = t.calls + 1 })
       (record t { stage = scanning (first_round (slice_index opens 0 == barrier) t.steps) e 0 None; calls = t.calls + 1 })
