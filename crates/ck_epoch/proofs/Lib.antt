@@ -1,3 +1,4 @@
 mod Places
 mod Records
 mod Writing
+mod Writer

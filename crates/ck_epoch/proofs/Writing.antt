@@ -23,10 +23,10 @@ two_back x E le late same = omega arith
 one_back : (x E : ℕ) → x ≤ E → 4 ≤ E → x % 4 ≡ (E - 1) % 4 → x ≤ E - 1
 one_back x E le late same = omega arith
 
-none_some : {A : Type 0} (x : ℕ) → None ≡ Some x → A
+pub none_some : {A : Type 0} (x : ℕ) → None ≡ Some x → A
 none_some x e = absurd cc
 
-some_same : (x y : ℕ) → Some x ≡ Some y → x ≡ y
+pub some_same : (x y : ℕ) → Some x ≡ Some y → x ≡ y
 some_same x y e = cc
 
 open_maps : (global global' r : ℕ) (older : ℕ → Type 0) (w w' : TokenState) (g : Stage)
@@ -38,7 +38,7 @@ open_maps global global' r older w w' g f h = h
 All-both : {X : Type 0} (P Q R : X → Type 0) → ((x : X) → P x → Q x → R x) → (xs : List X) → All P xs → All Q xs → All R xs
 All-both P Q R f xs p q k d l = f (get_or xs k d) (p k d l) (q k d l)
 
-All-four : (P : Retirement → Type 0) (items : List Retirement) → All P items → All P (list_by_list items)
+pub All-four : (P : Retirement → Type 0) (items : List Retirement) → All P items → All P (list_by_list items)
 All-four P items h = All-append P (on_list 0 items) (on_list 1 items ++ (on_list 2 items ++ on_list 3 items)) (All-filter (λ (k : Retirement). is_on 0 k.retired) P items h)
     (All-append P (on_list 1 items) (on_list 2 items ++ on_list 3 items) (All-filter (λ (k : Retirement). is_on 1 k.retired) P items h)
     (All-append P (on_list 2 items) (on_list 3 items) (All-filter (λ (k : Retirement). is_on 2 k.retired) P items h) (All-filter (λ (k : Retirement). is_on 3 k.retired) P items h)))
