@@ -2,3 +2,4 @@ mod Places
 mod Records
 mod Writing
 mod Writer
+mod Keeps

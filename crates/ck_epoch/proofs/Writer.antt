@@ -58,6 +58,23 @@ are_made records global entries w h = record {
 abbrev IsPending : ℕ → List Entry → ℕ → Retirement → Type 0
 IsPending global entries up k = IsRetired entries k × (k.retired.epoch + up ≤ global)
 
+-- the comparison of a record's epoch is a part of the scan
+pub as_scanning : (records global : ℕ) (entries : List Entry) (w : TokenState) (task : Task) (e rec : ℕ) (busy : Option ℕ) → IsWriter records global entries (at_stage w (comparing task e rec busy))
+    → IsWriter records global entries (at_stage w (scanning task e rec busy))
+as_scanning records global entries w task e rec busy h = let b = h.bounded in let d = due_comparing task e rec busy in let c = h.scan in let low = c.1 in record {
+  writing = tt;
+  steps = h.steps;
+  epoch = h.epoch;
+  late = h.late;
+  few = h.few;
+  bounded = omega arith;
+  scan = (c.0, omega arith, c.2);
+  pending = All-weaker (IsPending global entries (risen (comparing task e rec busy))) (IsPending global entries (risen (scanning task e rec busy)))
+      (λ k p. (p.0, let q = p.1 in let z = risen_comparing task e rec busy in omega arith)) w.pending h.pending;
+  dispatched = h.dispatched;
+  waited = h.waited;
+}
+
 module _ (records global : ℕ) (entries : List Entry) (e : Entry) (w : TokenState) where
   abbrev more : List Entry
   more = entries ++ e ∷ []

@@ -97,6 +97,12 @@ quiet_scanning polling e rec (Some f) r q = q
 quiet_scanning (first_round all s) e rec busy r q = q
 quiet_scanning (second_round all s) e rec busy r q = q
 
+quiet_comparing : (task : Task) (e rec : ℕ) (busy : Option ℕ) (r : ℕ) → IsQuiet (scanning task e rec busy) r → IsQuiet (comparing task e rec busy) r
+quiet_comparing polling e rec None r q = q
+quiet_comparing polling e rec (Some f) r q = q
+quiet_comparing (first_round all s) e rec busy r q = q
+quiet_comparing (second_round all s) e rec busy r q = q
+
 half_same : (task : Task) (e rec rec' : ℕ) (busy busy' : Option ℕ) → halfway (scanning task e rec' busy') ≡ halfway (scanning task e rec busy)
 half_same polling e rec rec' busy busy' = refl
 half_same (first_round all s) e rec rec' busy busy' = refl
@@ -106,6 +112,26 @@ half_scanning : (task : Task) (e rec : ℕ) (busy : Option ℕ) → halfway (sca
 half_scanning polling e rec busy = refl
 half_scanning (first_round all s) e rec busy = refl
 half_scanning (second_round all s) e rec busy = refl
+
+-- the comparison of a record's epoch changes nothing of what the scan has found
+pub as_scanning : (past : Run) (global active own r : ℕ) (w : TokenState) (g : Stage) (task : Task) (e rec : ℕ) (busy : Option ℕ)
+    → IsRecord past global active own r (at_stage w (comparing task e rec busy)) g → IsRecord past global active own r (at_stage w (scanning task e rec busy)) g
+as_scanning past global active own r w g task e rec busy h = record {
+  reading = h.reading;
+  behind = h.behind;
+  counted = h.counted;
+  timely = h.timely;
+  current = h.current;
+  sections = λ o is. open_maps global global r (λ i. o < place past 0 i) (at_stage w (comparing task e rec busy)) (at_stage w (scanning task e rec busy)) g
+      (λ d x inner b. record {
+        pending = b.pending;
+        dispatched = b.dispatched;
+        quiet = λ q. b.quiet (quiet_comparing task e rec busy r q);
+        half = λ first z. b.half first (sym (half_scanning task e rec busy) ∙ z);
+        waited = b.waited;
+      })
+      (h.sections o is);
+}
 
 module _ (past : Run) (e : Entry) (active own r : ℕ) where
   abbrev now : Run
