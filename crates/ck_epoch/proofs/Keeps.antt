@@ -1,5 +1,6 @@
 -- Each step of each token of a domain keeps what holds at every moment.
 use Rattle.std.proofs.Common.{◌≡◌, ◌≢◌, ℕ, zero, suc, ◌+◌, ◌-◌, ◌*◌, ◌^◌, ◌<◌, ◌≤◌, ◌⊎◌, ⊎_elim, inl, inr, Bool, true, false, ◌&&◌, cond, ◌==◌, eq-eqb, ne_eqb, nat_lt, Option, Some, None, List, [], ◌∷◌, ◌++◌, length, All, set, get_or, length-set, get_or-set_other, get_or-set_same, refl, sym, ap, ◌∙◌, subst, arith}
+use Rattle.std.proofs.lemmas.Bool.{eqb-true}
 use Rattle.std.proofs.lemmas.Bool.Decides.{nat_tests}
 use Rattle.std.proofs.lemmas.List.{set-get_or}
 use mathlib.Core.Logic.{dite}
@@ -38,6 +39,20 @@ lt_yes a b l = grind (arith, nat_tests)
 
 lt_no : (a b : ℕ) → b ≤ a → nat_lt a b ≡ false
 lt_no a b l = grind (arith, nat_tests)
+
+clear_is : (b : Bool) (task : Task) (busy : Option ℕ) → (b && is_clear task busy) ≡ true → (b ≡ true) × (task ≡ polling) × (busy ≡ None)
+clear_is true polling None z = (refl, refl, refl)
+clear_is true polling (Some f) z = absurd cc
+clear_is true (first_round all s) busy z = absurd cc
+clear_is true (second_round all s) busy z = absurd cc
+clear_is false task busy z = absurd cc
+
+never_clear : (b : Bool) (task : Task) (busy : Option ℕ) (r : ℕ) → busy ≡ Some r → (b && is_clear task busy) ≡ false
+never_clear b task None r z = record_.none_some r z
+never_clear true polling (Some f) r z = refl
+never_clear true (first_round all s) (Some f) r z = refl
+never_clear true (second_round all s) (Some f) r z = refl
+never_clear false task (Some f) r z = refl
 
 module _ (records : ℕ) (past : Run) (words : List ℕ) (at : ℕ → TokenState) (h : AreHeld records past words at) where
   abbrev E : ℕ
@@ -225,6 +240,9 @@ module _ (records : ℕ) (past : Run) (words : List ℕ) (at : ℕ → TokenStat
     abbrev then : Run
     then = past ++ (0, e) ∷ []
 
+    not_reading : (g : Stage) → V.stage ≡ g → IsReading g → ⊥
+    not_reading g is r = roles_apart g (subst IsWriting is h.writer.writing) r
+
     -- a load
     load_goes : (s : Stage) → V.stage ≡ s → (t : TokenState) → (IsWriter records E (account 0 past) (at_stage V s) → IsWriter records E (account 0 past ++ e ∷ []) t)
         → ((r : ℕ) → r < records → IsRecord past E (get_or words (active_word r) 0) (get_or words (epoch_word r) 0) r (at_stage V s) (at (suc r)).stage
@@ -257,3 +275,157 @@ module _ (records : ℕ) (past : Run) (words : List ℕ) (at : ℕ → TokenStat
         → AreHeld records then words (moved at 0 (record V { stage = scanning (first_round all V.steps) found 0 None; calls = V.calls + 1; steps = V.steps + 1 }))
     begins is all found same few = load_goes free is _ (writer.begins records E (account 0 past) e V all found same few)
         (λ r l g. record_.begins past e (get_or words (active_word r) 0) (get_or words (epoch_word r) 0) r E V (at (suc r)).stage (at_made free is) g (V.calls + 1) (V.steps + 1) all V.steps found)
+
+    -- a scan passes a record that it found inactive
+    module _ (task : Task) (v rec : ℕ) (busy : Option ℕ) (is : V.stage ≡ scanning task v rec busy) (below : rec < records) where
+      goes_past : (none : get_or words (active_word rec) 0 ≡ 0) → AreHeld records then words (moved at 0 (record V { stage = scanning task v (rec + 1) busy; steps = V.steps + 1 }))
+      goes_past none = load_goes (scanning task v rec busy) is _ (λ w. writer.scans records E (account 0 past) e V task v rec busy w (rec + 1) busy (omega arith))
+          (λ r l g. record_.passes_inactive past e (get_or words (active_word r) 0) (get_or words (epoch_word r) 0) r E V (at (suc r)).stage task v rec busy (at_made (scanning task v rec busy) is) g (V.steps + 1)
+            (λ z. ap (λ (k : ℕ). get_or words (active_word k) 0) z ∙ none))
+
+      meets : AreHeld records then words (moved at 0 (record V { stage = comparing task v rec busy; steps = V.steps + 1 }))
+      meets = load_goes (scanning task v rec busy) is _ (λ w. writer.compares records E (account 0 past) e V task v rec busy w below)
+          (λ r l g. record_.meets past e (get_or words (active_word r) 0) (get_or words (epoch_word r) 0) r E V (at (suc r)).stage task v rec busy (at_made (scanning task v rec busy) is) g (V.steps + 1))
+
+    clears : (v rec : ℕ) → V.stage ≡ scanning polling v rec None → rec + 1 ≡ records → get_or words (active_word rec) 0 ≡ 0 → AreHeld records then words (moved at 0 (record (dispatch_all V) { stage = free; steps = V.steps + 1 }))
+    clears v rec is last none = load_goes (scanning polling v rec None) is _ (λ w. writer.clears records E (account 0 past) e V v rec None w)
+        (λ r l g. record_.clears past e (get_or words (active_word r) 0) (get_or words (epoch_word r) 0) r E V (at (suc r)).stage v rec (V.steps + 1) (at_made (scanning polling v rec None) is) g (omega arith)
+          (λ z. ap (λ (k : ℕ). get_or words (active_word k) 0) z ∙ none))
+
+    -- the record's epoch was compared
+    module _ (task : Task) (v rec : ℕ) (busy : Option ℕ) (is : V.stage ≡ comparing task v rec busy) (below : rec < records) where
+      abbrev Before : TokenState
+      Before = at_stage V (scanning task v rec busy)
+
+      before : IsWriter records E (account 0 past) (at_stage V (comparing task v rec busy)) → IsWriter records E (account 0 past) Before
+      before w = writer.as_scanning records E (account 0 past) V task v rec busy w
+
+      before_made : AreMade (count past 0) Before
+      before_made = are_made records E (account 0 past) Before (before (at_writer (comparing task v rec busy) is))
+
+      before_record : (r : ℕ) → IsRecord past E (get_or words (active_word r) 0) (get_or words (epoch_word r) 0) r (at_stage V (comparing task v rec busy)) (at (suc r)).stage
+          → IsRecord past E (get_or words (active_word r) 0) (get_or words (epoch_word r) 0) r Before (at (suc r)).stage
+      before_record r g = record_.as_scanning past E (get_or words (active_word r) 0) (get_or words (epoch_word r) 0) r V (at (suc r)).stage task v rec busy g
+
+      goes_by : (found : ℕ) → get_or words (epoch_word rec) 0 ≡ v → AreHeld records then words (moved at 0 (record V { stage = scanning task v (rec + 1) (Some found); steps = V.steps + 1 }))
+      goes_by found same = load_goes (comparing task v rec busy) is _ (λ w. writer.scans records E (account 0 past) e V task v rec busy (before w) (rec + 1) (Some found) (omega arith))
+          (λ r l g. record_.passes_current past e (get_or words (active_word r) 0) (get_or words (epoch_word r) 0) r E V (at (suc r)).stage task v rec busy before_made (before_record r g) (V.steps + 1) found
+            (λ z. ap (λ (k : ℕ). get_or words (epoch_word k) 0) z ∙ (same ∙ (at_writer (comparing task v rec busy) is).scan.0)))
+
+      repeats : AreHeld records then words (moved at 0 (record V { stage = scanning task v rec busy; steps = V.steps + 1 }))
+      repeats = load_goes (comparing task v rec busy) is _ (λ w. writer.scans records E (account 0 past) e V task v rec busy (before w) rec busy (omega arith))
+          (λ r l g. record_.repeats past e (get_or words (active_word r) 0) (get_or words (epoch_word r) 0) r E V (at (suc r)).stage task v rec busy before_made (before_record r g) (V.steps + 1))
+
+    gives_up : (v rec : ℕ) (busy : Option ℕ) → V.stage ≡ comparing polling v rec busy → rec < records → AreHeld records then words (moved at 0 (record V { stage = free; steps = V.steps + 1 }))
+    gives_up v rec busy is below = load_goes (comparing polling v rec busy) is _ (λ w. writer.gives_up records E (account 0 past) e V v rec busy (before polling v rec busy is below w))
+        (λ r l g. record_.gives_up past e (get_or words (active_word r) 0) (get_or words (epoch_word r) 0) r E V (at (suc r)).stage polling v rec busy (before_made polling v rec busy is below) (before_record polling v rec busy is below r g) (V.steps + 1))
+
+    goes_on : (all : Bool) (started found : ℕ) → V.stage ≡ between all started → found ≡ E → AreHeld records then words (moved at 0 (record V { stage = scanning (second_round all started) found 0 None; steps = V.steps + 1 }))
+    goes_on all started found is same = load_goes (between all started) is _ (writer.goes_on records E (account 0 past) e V all started found same)
+        (λ r l g. record_.goes_on past e (get_or words (active_word r) 0) (get_or words (epoch_word r) 0) r E V (at (suc r)).stage all started found (V.steps + 1) (at_made (between all started) is) g)
+
+    -- the global epoch rises, as it is the one that was loaded
+    module _ (v : ℕ) (busy : Option ℕ) where
+      raise_goes : (s : Stage) → V.stage ≡ s → v ≡ E → (t : TokenState) → (IsWriter records E (account 0 past) (at_stage V s) → IsWriter records (E + 1) (account 0 past ++ e ∷ []) t)
+          → ((r : ℕ) → r < records → IsRecord past E (get_or words (active_word r) 0) (get_or words (epoch_word r) 0) r (at_stage V s) (at (suc r)).stage
+              → IsRecord then (E + 1) (get_or words (active_word r) 0) (get_or words (epoch_word r) 0) r t (at (suc r)).stage)
+          → AreHeld records then (set words 0 (v + 1)) (moved at 0 t)
+      raise_goes s is same t mine turns = let w = h.wide in
+          writer_goes s is e t (set words 0 (v + 1)) (E + 1) (length-set words 0 (v + 1)) (get_or-set_same words 0 (v + 1) 0 (omega arith) ∙ ap (λ (k : ℕ). k + 1) same)
+            (λ i l _. get_or-set_other words 0 i (v + 1) 0 (omega arith)) (mine (at_writer s is)) turns
+
+      raises : (task : Task) → V.stage ≡ scanning task v records busy → AreHeld records then (set words 0 (v + 1)) (moved at 0 (record (after_raise V task v) { steps = V.steps + 1 }))
+      raises polling is = let s : Stage = scanning polling v records busy in let same = (at_writer s is).scan.0 in
+          raise_goes s is same _ (λ w. writer.raises records E (account 0 past) e V v records busy w)
+            (λ r l g. record_.raises past e (get_or words (active_word r) 0) (get_or words (epoch_word r) 0) r E V (at (suc r)).stage v records busy l (V.steps + 1) same h.writer.late (low 0 s is refl) (at_made s is) g)
+      raises (first_round all started) is = let s : Stage = scanning (first_round all started) v records busy in let same = (at_writer s is).scan.0 in
+          raise_goes s is same _ (λ w. writer.raises_first records E (account 0 past) e V all started v records busy w)
+            (λ r l g. record_.raises_first past e (get_or words (active_word r) 0) (get_or words (epoch_word r) 0) r E V (at (suc r)).stage v records busy l (V.steps + 1) all started (at_made s is) g)
+      raises (second_round all started) is = let s : Stage = scanning (second_round all started) v records busy in let same = (at_writer s is).scan.0 in
+          raise_goes s is same _ (λ w. writer.raises_second records E (account 0 past) e V all started v records busy w)
+            (λ r l g. record_.raises_second past e (get_or words (active_word r) 0) (get_or words (epoch_word r) 0) r E V (at (suc r)).stage v records busy l (V.steps + 1) all started (low 1 s is refl) (at_made s is) g)
+
+    -- the load of the global epoch at which a call of the writer's begins
+    opened : (o i : List ℕ) (found : ℕ) → V.stage ≡ free → e ≡ handing o i (Load 0 found) → found ≡ E → V.calls < 2 ^ 40 → Retires o i ⊎ Calls poll o i ⊎ Calls synchronize o i ⊎ Calls barrier o i
+        → AreHeld records then words (moved at 0 (record (after_load V o i found) { steps = V.steps + 1 }))
+    opened o i found is whole same few may = ⊎_elim
+        (λ (m : Retires o i). subst (λ (l : List ℕ). AreHeld records then words (moved at 0 (record (after_load V o l found) { steps = V.steps + 1 }))) (sym m.2)
+          (retires is o m.0 m.1 found (whole ∙ ap (λ (l : List ℕ). handing o l (Load 0 found)) m.2) same few))
+        (λ others. ⊎_elim
+          (λ (m : Calls poll o i). by_name poll m (polls is found same few))
+          (λ rounds. ⊎_elim (λ (m : Calls synchronize o i). by_name synchronize m (begins is false found same few)) (λ (m : Calls barrier o i). by_name barrier m (begins is true found same few)) rounds) others) may
+      where
+        by_name : (name : ℕ) → Calls name o i → AreHeld records then words (moved at 0 (record (after_load V (name ∷ []) [] found) { steps = V.steps + 1 }))
+            → AreHeld records then words (moved at 0 (record (after_load V o i found) { steps = V.steps + 1 }))
+        by_name name m held = subst (λ (l : List ℕ × List ℕ). AreHeld records then words (moved at 0 (record (after_load V l.0 l.1 found) { steps = V.steps + 1 }))) (λ j. (sym m.0 j, sym m.1 j)) held
+
+    -- the record was found inactive
+    inactive : (task : Task) (v rec : ℕ) (busy : Option ℕ) → V.stage ≡ scanning task v rec busy → rec < records → get_or words (active_word rec) 0 ≡ 0
+        → AreHeld records then words (moved at 0 (record (after_record records V task v rec busy) { steps = V.steps + 1 }))
+    inactive task v rec busy is below none = by_test ((rec + 1 == records) && is_clear task busy) refl
+      where
+        by_test : (b : Bool) → ((rec + 1 == records) && is_clear task busy) ≡ b
+            → AreHeld records then words (moved at 0 (record (cond b (record (dispatch_all V) { stage = free }) (record V { stage = scanning task v (rec + 1) busy })) { steps = V.steps + 1 }))
+        by_test true z = let c = clear_is (rec + 1 == records) task busy z in
+            clears v rec (is ∙ (λ i. scanning (c.1 i) v rec (c.2 i))) (eqb-true (rec + 1) records c.0) none
+        by_test false z = goes_past task v rec busy is below none
+
+    -- its epoch was compared
+    compared : (task : Task) (v rec x : ℕ) (busy : Option ℕ) → V.stage ≡ comparing task v rec busy → rec < records → x ≡ get_or words (epoch_word rec) 0
+        → AreHeld records then words (moved at 0 (record (cond (x == v) (after_record records V task v rec (first_busy busy rec)) (after_blocked V task v rec busy)) { steps = V.steps + 1 }))
+    compared task v rec x busy is below fits = by_test (x == v) refl
+      where
+        goes : (found : Option ℕ) → ((r : ℕ) → found ≡ Some r → get_or words (epoch_word rec) 0 ≡ v → AreHeld records then words (moved at 0 (record (after_record records V task v rec found) { steps = V.steps + 1 })))
+        goes found r z same = subst (λ (b : Bool). AreHeld records then words (moved at 0 (record (cond b (record (dispatch_all V) { stage = free }) (record V { stage = scanning task v (rec + 1) found })) { steps = V.steps + 1 })))
+            (sym (never_clear (rec + 1 == records) task found r z))
+            (subst (λ (f : Option ℕ). AreHeld records then words (moved at 0 (record V { stage = scanning task v (rec + 1) f; steps = V.steps + 1 }))) (sym z) (goes_by task v rec busy is below r same))
+
+        passed : (b : Option ℕ) → get_or words (epoch_word rec) 0 ≡ v → AreHeld records then words (moved at 0 (record (after_record records V task v rec (first_busy b rec)) { steps = V.steps + 1 }))
+        passed None same = goes (Some rec) rec refl same
+        passed (Some r) same = goes (Some r) r refl same
+
+        blocked : (t : Task) → t ≡ task → AreHeld records then words (moved at 0 (record (after_blocked V t v rec busy) { steps = V.steps + 1 }))
+        blocked polling z = gives_up v rec busy (is ∙ λ i. comparing (sym z i) v rec busy) below
+        blocked (first_round all s) z = repeats (first_round all s) v rec busy (is ∙ λ i. comparing (sym z i) v rec busy) below
+        blocked (second_round all s) z = repeats (second_round all s) v rec busy (is ∙ λ i. comparing (sym z i) v rec busy) below
+
+        by_test : (b : Bool) → (x == v) ≡ b
+            → AreHeld records then words (moved at 0 (record (cond b (after_record records V task v rec (first_busy busy rec)) (after_blocked V task v rec busy)) { steps = V.steps + 1 }))
+        by_test true z = passed busy (sym fits ∙ eqb-true x v z)
+        by_test false z = blocked task refl
+
+    writer_kind : (g : Stage) (s : Step) (o i : List ℕ) → V.stage ≡ g → e ≡ handing o i s → MayStep records V o i g s → Fits words s
+        → AreHeld records then (words_after words s) (moved at 0 (record (after_step records V o i g s) { steps = V.steps + 1 }))
+    writer_kind free (Store a x) o i is whole may fits = let high = may.0 in writer_elsewhere is (set words a x) (length-set words a x) (λ j l. get_or-set_other words a j x 0 (omega arith))
+    writer_kind free (Load a x) o i is whole may fits = ⊎_elim
+        (λ m. subst (λ (b : Bool). AreHeld records then words (moved at 0 (record (cond b (after_load V o i x) V) { steps = V.steps + 1 }))) (sym (lt_yes a (base records) (let z = m.0 in omega arith)))
+          (opened o i x is (whole ∙ ap (λ (k : ℕ). handing o i (Load k x)) m.0) (fits ∙ ap (λ (k : ℕ). get_or words k 0) m.0) m.1 m.2))
+        (λ m. subst (λ (b : Bool). AreHeld records then words (moved at 0 (record (cond b (after_load V o i x) V) { steps = V.steps + 1 }))) (sym (lt_no a (base records) m.0))
+          (writer_elsewhere is words refl (λ j l. refl))) may
+    writer_kind (scanning task v rec busy) (Load a x) o i is whole may fits = by_test (x == 0) refl
+      where
+        found : x ≡ get_or words (active_word rec) 0
+        found = fits ∙ ap (λ (k : ℕ). get_or words k 0) may.0
+
+        by_test : (b : Bool) → (x == 0) ≡ b
+            → AreHeld records then words (moved at 0 (record (cond b (after_record records V task v rec busy) (record V { stage = comparing task v rec busy })) { steps = V.steps + 1 }))
+        by_test true z = inactive task v rec busy is may.1 (sym found ∙ eqb-true x 0 z)
+        by_test false z = meets task v rec busy is may.1
+    writer_kind (scanning task v rec busy) (Exchange a old new x) o i is whole may fits =
+        let same : v ≡ E = (at_writer (scanning task v rec busy) is).scan.0 in
+        let meets_it : x ≡ old = fits ∙ (ap (λ (k : ℕ). get_or words k 0) may.0 ∙ (sym same ∙ sym may.2)) in
+        subst (λ (z : ℕ × ℕ). AreHeld records then (set words z.0 z.1) (moved at 0 (record (after_raise V task v) { steps = V.steps + 1 })))
+          (λ j. (sym may.0 j, (sym may.3 ∙ ap (λ (b : Bool). cond b new x) (sym (eq-eqb x old meets_it))) j))
+          (raises v busy task (is ∙ ap (λ (k : ℕ). scanning task v k busy) may.1))
+    writer_kind (comparing task v rec busy) (Load a x) o i is whole may fits = compared task v rec x busy is may.1 (fits ∙ ap (λ (k : ℕ). get_or words k 0) may.0)
+    writer_kind (between all started) (Load a x) o i is whole may fits = goes_on all started x is (fits ∙ ap (λ (k : ℕ). get_or words k 0) may.0)
+    writer_kind outside s o i is whole may fits = absurd (not_reading outside is tt)
+    writer_kind entering s o i is whole may fits = absurd (not_reading entering is tt)
+    writer_kind (holding g) s o i is whole may fits = absurd (not_reading (holding g) is tt)
+    writer_kind (inside d g) s o i is whole may fits = absurd (not_reading (inside d g) is tt)
+    writer_kind g s o i is whole may fits = absurd may
+
+-- What holds of a domain is kept by each step of its tokens
+pub keeps : (records : ℕ) → IsInvariantAlong (next records) (May records) (AreHeld records)
+keeps records past words at zero e h may fits = writer_kind records past words at h e (at 0).stage e.step e.opens e.item refl refl may fits
+keeps records past words at (suc q) e h may fits = pass_kind records past words at h q e (at (suc q)).stage e.step e.opens e.item refl refl may fits
