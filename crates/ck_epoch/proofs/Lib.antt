@@ -3,3 +3,4 @@ mod Records
 mod Writing
 mod Writer
 mod Keeps
+mod Law
