@@ -41,3 +41,103 @@ fn dispatch<C: Client, F: Fn(Item) -> Back>(
     }
     dispatched
 }
+
+/// What a writer has retired and not yet given back. Contracts see the items that are pending, in order of retirement, the answers
+/// that wait, and how many there is room for.
+#[derive(Drop)]
+pub(crate) struct Backlog {
+    pending: VecDeque<Retired>,
+    waiting: VecDeque<Back>,
+}
+
+impl Model for Backlog {
+    ghost use Rattle.std.specs.Prelude.{◌≡◌, ◌+◌, ◌≤◌};
+    ghost use Rattle.std.specs.VecDeque.{deque_len, deque_capacity};
+    ghost use Rattle.ck_epoch.specs.Lists.{Backlog};
+
+    ghost Value = { Backlog };
+
+    ghost view = { λ b. record { pending = b.pending.items; waiting = b.waiting.items; room = deque_capacity b.pending } };
+
+    ghost invariant = { λ b. (deque_len b.pending + deque_len b.waiting ≤ deque_capacity b.pending) × (deque_capacity b.waiting ≡ deque_capacity b.pending) };
+}
+
+impl Backlog {
+    /// Room for so many items that are pending and answers that wait.
+    pub(crate) fn new(alloc: Global, room: usize) -> Result<Backlog, AllocError>
+        ensures { IfOk result (λ b. b ≡ record { pending = []; waiting = []; room = room }) }
+    {
+        let pending = VecDeque::with_capacity(alloc, room)?;
+        let waiting = VecDeque::with_capacity(alloc, room)?;
+        Ok(Backlog { pending, waiting })
+    }
+
+    /// How many items are pending.
+    pub(crate) fn pending(&self) -> usize
+        ensures { result ≡ length self.now.pending }
+    {
+        self.pending.len()
+    }
+
+    /// How many answers wait.
+    pub(crate) fn waiting(&self) -> usize
+        ensures { result ≡ length self.now.waiting }
+    {
+        self.waiting.len()
+    }
+
+    /// Puts an item that was retired at this epoch behind those that are pending.
+    pub(crate) fn retire(&mut self, item: Item, epoch: u64)
+        requires { length self.old.pending + length self.old.waiting < self.old.room }
+        ensures { self.new ≡ record self.old { pending = self.old.pending ++ record { item = item; epoch = epoch } ∷ [] } }
+    {
+        self.pending.push_back_reserved(Retired { item, epoch });
+    }
+
+    /// Takes the answer that waits longest.
+    pub(crate) fn next_back(&mut self) -> Option<Back>
+        ensures { self.old.waiting ≡ option_to_list result ++ self.new.waiting }
+        ensures rest { self.new ≡ record self.old { waiting = self.new.waiting } }
+    {
+        self.waiting.pop_front()
+    }
+
+    /// Dispatches one list: the items leave in order of retirement, and the handler's answer for each waits. Answers how many.
+    pub(crate) fn dispatch_list<C: Client, F: Fn(Item) -> Back>(
+        &mut self,
+        client: &C,
+        list: u64,
+        handler: &F,
+    ) -> u64
+        requires handler { Answers C.retires C.home client.now F.pre F.post handler.now }
+        requires may { All (λ (r : RetiredOf). C.retires client.now r.item ≡ true) self.old.pending }
+        ensures backlog { self.new ≡ dispatched (C.home client.now) (on list self.old.pending) (off list self.old.pending) self.old }
+        ensures count { result ≡ length (on list self.old.pending) }
+    {
+        dispatch(
+            client,
+            list,
+            &mut self.pending,
+            &mut self.waiting,
+            handler,
+        )
+    }
+
+    /// Dispatches all lists in order of their numbers, each in order of retirement. Answers how many items that were.
+    pub(crate) fn dispatch_all<C: Client, F: Fn(Item) -> Back>(
+        &mut self,
+        client: &C,
+        handler: &F,
+    ) -> u64
+        requires handler { Answers C.retires C.home client.now F.pre F.post handler.now }
+        requires may { All (λ (r : RetiredOf). C.retires client.now r.item ≡ true) self.old.pending }
+        ensures backlog { self.new ≡ dispatched (C.home client.now) (by_list self.old.pending) [] self.old }
+        ensures count { result ≡ length self.old.pending }
+    {
+        let mut dispatched = 0;
+        for list in 0..LISTS {
+            dispatched += self.dispatch_list(client, list, handler);
+        }
+        dispatched
+    }
+}
