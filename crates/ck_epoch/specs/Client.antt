@@ -5,16 +5,25 @@ use Rattle.ck_run.specs.declared.account.Step.TheVariants.{Load}
 use Rattle.ck_run.specs.Range.{IsInside, IsOutside}
 use Rattle.ck_run.specs.Rule.{Follows}
 use Rattle.ck_run.specs.Machine.{Obeys, follows_of}
+use Rattle.ck_words.specs.declared.back.Back.{Back}
 use Rattle.ck_epoch.specs.declared.about.About.{About}
+use Rattle.ck_epoch.specs.declared.item.Item.{Item}
 use Rattle.ck_epoch.specs.State.{Origin, TokenState, epochs, base_of, depth_of}
 
--- How many words it has, the word at each place at opening, which words a reader loads within a section alone, and the accounts that its
--- calls make: of the word at which its words begin, how the table began, a token's number and all its entries
+-- What a client means: how many words it has, the word at each place at opening, and which words a reader loads within a section alone;
+-- the accounts that its calls make: of the word at which its words begin, how the table began, a token's number and all its entries;
+-- which items its writer may retire, and where each goes back;
+-- the log that a writer's account gives, and the number of answered calls that a reader's account gives
 pub record Client (C : Type 0) : Type 1 where
   pub size : C → ℕ
   pub first : C → ℕ → ℕ
   pub guarded : C → ℕ → Bool
   pub follows : ℕ → Origin C → ℕ → List Entry → Type 0
+  pub retires : C → Item → Bool
+  pub home : C → Item → Back
+  pub Update : Type 0
+  pub log : ℕ → Origin C → List Entry → List Update
+  pub answered : ℕ → Origin C → List Entry → ℕ
 
 module _ {C : Type 0} (client : Client C) where
   -- where the words end that begin at `first`
@@ -35,6 +44,14 @@ module _ {C : Type 0} (client : Client C) where
   -- each step of another may stand between its steps
   abbrev pub Passes : Type 0
   Passes = (first : ℕ) (origin : Origin C) (n : ℕ) (es : List Entry) (e : Entry) → client.follows first origin n es → IsOthers first origin e → client.follows first origin n (es ++ e ∷ [])
+
+  -- As an account grows, the log before is a prefix of the log after
+  abbrev pub LogGrows : Type 0
+  LogGrows = (first : ℕ) (origin : Origin C) (es : List Entry) (e : Entry) → (more : List client.Update) × (client.log first origin (es ++ e ∷ []) ≡ client.log first origin es ++ more)
+
+  -- and the number of answered calls doesn't fall
+  abbrev pub AnsweredRises : Type 0
+  AnsweredRises = (first : ℕ) (origin : Origin C) (es : List Entry) (e : Entry) → client.answered first origin es ≤ client.answered first origin (es ++ e ∷ [])
 
   -- its words at opening
   pub record IsClientOpening (origin : Origin C) : Type 0 where

@@ -1,3 +1,4 @@
 pub mod Lists
 pub mod State
 pub mod Client
+pub mod Ends

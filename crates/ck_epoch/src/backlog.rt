@@ -40,11 +40,11 @@ fn dispatch<C: Client, F: Fn(Item) -> Back>(
     waiting: &mut VecDeque<Back>,
     handler: &F,
 ) -> u64
-    requires handler { Answers (C.retires client.now) (C.home client.now) (F.pre handler.now) (F.post handler.now) }
-    requires retired { AreRetired (C.retires client.now) pending.old.items }
+    requires handler { Answers (C.meaning.retires client.now) (C.meaning.home client.now) (F.pre handler.now) (F.post handler.now) }
+    requires retired { AreRetired (C.meaning.retires client.now) pending.old.items }
     requires room { deque_len waiting.old + deque_len pending.old ≤ deque_capacity waiting.old }
     ensures pending { pending.new.items ≡ off list pending.old.items }
-    ensures waiting { waiting.new.items ≡ waiting.old.items ++ homes (C.home client.now) (on list pending.old.items) }
+    ensures waiting { waiting.new.items ≡ waiting.old.items ++ homes (C.meaning.home client.now) (on list pending.old.items) }
     ensures count { result ≡ length (on list pending.old.items) }
     ensures lengths { (deque_len pending.new + result ≡ deque_len pending.old) × (deque_len waiting.new ≡ deque_len waiting.old + result) }
     ensures capacity { (deque_capacity pending.new ≡ deque_capacity pending.old) × (deque_capacity waiting.new ≡ deque_capacity waiting.old) }
@@ -110,9 +110,9 @@ impl Backlog {
         list: u64,
         handler: &F,
     ) -> u64
-        requires handler { Answers (C.retires client.now) (C.home client.now) (F.pre handler.now) (F.post handler.now) }
-        requires retired { AreRetired (C.retires client.now) self.old.pending }
-        ensures backlog { self.new ≡ answered (C.home client.now) (on list self.old.pending) (off list self.old.pending) self.old }
+        requires handler { Answers (C.meaning.retires client.now) (C.meaning.home client.now) (F.pre handler.now) (F.post handler.now) }
+        requires retired { AreRetired (C.meaning.retires client.now) self.old.pending }
+        ensures backlog { self.new ≡ answered (C.meaning.home client.now) (on list self.old.pending) (off list self.old.pending) self.old }
         ensures count { result ≡ length (on list self.old.pending) }
     {
         dispatch(
@@ -130,9 +130,9 @@ impl Backlog {
         client: &C,
         handler: &F,
     ) -> u64
-        requires handler { Answers (C.retires client.now) (C.home client.now) (F.pre handler.now) (F.post handler.now) }
-        requires retired { AreRetired (C.retires client.now) self.old.pending }
-        ensures backlog { self.new ≡ answered (C.home client.now) (by_list self.old.pending) [] self.old }
+        requires handler { Answers (C.meaning.retires client.now) (C.meaning.home client.now) (F.pre handler.now) (F.post handler.now) }
+        requires retired { AreRetired (C.meaning.retires client.now) self.old.pending }
+        ensures backlog { self.new ≡ answered (C.meaning.home client.now) (by_list self.old.pending) [] self.old }
         ensures count { result ≡ length self.old.pending }
     {
         let all = self.pending();

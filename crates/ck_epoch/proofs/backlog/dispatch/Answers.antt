@@ -12,11 +12,11 @@ loop-i-preserved g c =
     let r : Retired = c.unwrap-retired.result in
     let rest : List Retired = c.pop_front.new.self.items in
     let kept = c.loop-i.invariant in
-    let home = g.C.Client.home c.args.client.now in
+    let home = g.C.Client.meaning.home c.args.client.now in
     let low : c.loop-i._i < length xs = search rules in
     let popped : c.loop-i.pending.items ≡ r ∷ rest = c.pop_front.ensures.items ∙ ap (λ o. option_to_list o ++ rest) c.unwrap-retired.ensures in
-    let may = subst (λ (x : Retired). g.C.Client.retires c.args.client.now x.item ≡ true) (sym (is_next c.args.list xs c.loop-i._i low r rest c.loop-i.pending.items kept.pending popped))
-        (All-get_or (λ (x : Retired). g.C.Client.retires c.args.client.now x.item ≡ true) xs c.loop-i._i r low c.requires.retired) in
+    let may = subst (λ (x : Retired). g.C.Client.meaning.retires c.args.client.now x.item ≡ true) (sym (is_next c.args.list xs c.loop-i._i low r rest c.loop-i.pending.items kept.pending popped))
+        (All-get_or (λ (x : Retired). g.C.Client.meaning.retires c.args.client.now x.item ≡ true) xs c.loop-i._i r low c.requires.retired) in
     elim c.if-retired-list.branch [
       then-retired-list w ↦ record {
         pending = ap (λ q. q.items) w.pending-is ∙ left_on c.args.list xs c.loop-i._i low r rest c.loop-i.pending.items kept.pending popped w.if-retired-list.true;
