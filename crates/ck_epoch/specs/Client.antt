@@ -53,10 +53,18 @@ module _ {C : Type 0} (client : Client C) where
   abbrev pub AnsweredRises : Type 0
   AnsweredRises = (first : ℕ) (origin : Origin C) (es : List Entry) (e : Entry) → client.answered first origin es ≤ client.answered first origin (es ++ e ∷ [])
 
-  -- its words at opening
+  -- the words from `first` on are its words at opening
+  abbrev pub IsPlaced : ℕ → Origin C → Type 0
+  IsPlaced first origin = (i : ℕ) → i < client.size origin.config.client → slice_index origin.words (first + i) ≡ client.first origin.config.client i
+
+  -- tokens that made no step are its own
+  abbrev pub Starts : Type 0
+  Starts = (first : ℕ) (origin : Origin C) → IsPlaced first origin → (n : ℕ) → client.follows first origin n []
+
+  -- its words come after those of the epochs
   pub record IsClientOpening (origin : Origin C) : Type 0 where
     pub long : length origin.words ≡ base_of origin + client.size origin.config.client
-    pub words : (i : ℕ) → i < client.size origin.config.client → slice_index origin.words (base_of origin + i) ≡ client.first origin.config.client i
+    pub words : IsPlaced (base_of origin) origin
 
   -- a load of a guarded word stands within a section
   abbrev pub IsGuarded : Origin C → TokenState → Entry → Type 0

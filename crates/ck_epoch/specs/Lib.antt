@@ -2,3 +2,4 @@ pub mod Lists
 pub mod State
 pub mod Client
 pub mod Ends
+pub mod Calls

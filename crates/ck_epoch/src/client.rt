@@ -1,6 +1,6 @@
 //! Structures over the words of a domain.
 ghost use Rattle.std.specs.Prelude.{◌≡◌, ◌<◌, ◌≤◌, ◌^◌};
-ghost use Rattle.ck_epoch.specs.Client.{Client as Meaning, Passes, LogGrows, AnsweredRises};
+ghost use Rattle.ck_epoch.specs.Client.{Client as Meaning, Starts, Passes, LogGrows, AnsweredRises};
 
 /// A structure over the words of a domain.
 pub trait Client {
@@ -16,6 +16,9 @@ pub trait Client {
     fn first(&self, at: u64) -> u64
         requires { at < meaning.size self.now }
         ensures { result ≡ meaning.first self.now at };
+
+    // Tokens that made no step are its own.
+    ghost starts: { Starts meaning };
 
     // Each step of another may stand between its steps.
     ghost passes: { Passes meaning };

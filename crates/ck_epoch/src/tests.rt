@@ -26,6 +26,8 @@ impl Client for Counter {
         answered = λ first origin es. 0;
     } };
 
+    ghost starts = { λ first origin placed n. tt };
+
     ghost passes = { λ first origin n es e follows others. tt };
 
     ghost grows = { λ first origin es e. (own first (first + 1) (e ∷ []), own-append first (first + 1) es (e ∷ [])) };
