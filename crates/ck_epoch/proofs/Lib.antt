@@ -1,2 +1,7 @@
 pub mod Dispatching
 pub mod FourLists
+mod Places
+mod Records
+mod Writing
+mod Writer
+mod Keeps

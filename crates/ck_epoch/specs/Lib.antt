@@ -3,3 +3,5 @@ pub mod State
 pub mod Client
 pub mod Ends
 pub mod Calls
+pub mod Epochs
+pub mod Held

@@ -87,7 +87,8 @@ pub record Retirement : Type 0 where
   pub retired : Retired
 
 -- What a token did, by its account: `steps` are all its entries, and `calls` its counted calls. A pass has the record `rec`. The writer
--- knows the global epoch, the items that are pending, in order of retirement, and those that it dispatched, in order of dispatch
+-- knows the global epoch, the items that are pending, in order of retirement, those that it dispatched, in order of dispatch, and the first
+-- entry of its last `synchronize` or `barrier` that is done
 pub record TokenState : Type 0 where
   pub stage : Stage
   pub rec : ℕ
@@ -96,10 +97,11 @@ pub record TokenState : Type 0 where
   pub epoch : ℕ
   pub pending : List Retirement
   pub dispatched : List Retirement
+  pub waited : Option ℕ
 
 -- before the first step
 abbrev pub initial : Stage → ℕ → TokenState
-initial g r = record { stage = g; rec = r; steps = 0; calls = 0; epoch = 4; pending = []; dispatched = [] }
+initial g r = record { stage = g; rec = r; steps = 0; calls = 0; epoch = 4; pending = []; dispatched = []; waited = None }
 
 abbrev pub start : ℕ → TokenState
 start zero = initial free 0
@@ -157,28 +159,32 @@ abbrev pub is_clear : Task → Option ℕ → Bool
 is_clear polling None = true
 is_clear task busy = false
 
-module _ (records : ℕ) where
-  -- after the writer's load of the global epoch e, by which it retires an item, or begins a poll or a first round
-  abbrev pub after_load : TokenState → List ℕ → List ℕ → ℕ → TokenState
-  after_load t opens (at ∷ log ∷ rest) e = record t { calls = t.calls + 1; pending = t.pending ++ retirement t.steps at log e ∷ [] }
-  after_load t opens item e = cond (slice_index opens 0 == poll)
-      (record (dispatch (e - 2) t) { stage = scanning polling e 0 None; calls = t.calls + 1 })
-      (record t { stage = scanning (first_round (slice_index opens 0 == barrier) t.steps) e 0 None; calls = t.calls + 1 })
+-- after the writer's load of the global epoch e, by which it retires an item, or begins a poll or a first round
+abbrev pub after_load : TokenState → List ℕ → List ℕ → ℕ → TokenState
+after_load t opens (at ∷ log ∷ rest) e = record t { stage = free; calls = t.calls + 1; pending = t.pending ++ retirement t.steps at log e ∷ [] }
+after_load t opens item e = cond (slice_index opens 0 == poll)
+    (record (dispatch (e - 2) t) { stage = scanning polling e 0 None; calls = t.calls + 1 })
+    (record t { stage = scanning (first_round (slice_index opens 0 == barrier) t.steps) e 0 None; calls = t.calls + 1 })
 
+-- after the record `rec` was found active with another epoch
+abbrev pub after_blocked : TokenState → Task → ℕ → ℕ → Option ℕ → TokenState
+after_blocked t polling e rec busy = record t { stage = free }
+after_blocked t task e rec busy = record t { stage = scanning task e rec busy }
+
+-- after the global epoch rose from e
+abbrev pub after_raise : TokenState → Task → ℕ → TokenState
+after_raise t polling e = record (dispatch (e - 1) t) { stage = free; epoch = e + 1 }
+after_raise t (first_round all started) e = record t { stage = between all started; epoch = e + 1 }
+after_raise t (second_round all started) e = record (cond all (dispatch_all t) t) { stage = free; epoch = e + 1; waited = Some started }
+
+-- a step that retires an item: `call` by itself, or within a call of the client's
+abbrev pub Retires : List ℕ → List ℕ → Type 0
+Retires opens item = (at : ℕ) × (log : ℕ) × (item ≡ at ∷ log ∷ []) × ((opens ≡ []) ⊎ (opens ≡ retire ∷ at ∷ log ∷ []))
+
+module _ (records : ℕ) where
   -- after the record `rec` was passed. Where a poll has found none of all records active, it dispatches all lists
   abbrev pub after_record : TokenState → Task → ℕ → ℕ → Option ℕ → TokenState
   after_record t task e rec busy = cond ((rec + 1 == records) && is_clear task busy) (record (dispatch_all t) { stage = free }) (record t { stage = scanning task e (rec + 1) busy })
-
-  -- after the record `rec` was found active with another epoch
-  abbrev pub after_blocked : TokenState → Task → ℕ → ℕ → Option ℕ → TokenState
-  after_blocked t polling e rec busy = record t { stage = free }
-  after_blocked t task e rec busy = record t { stage = scanning task e rec busy }
-
-  -- after the global epoch rose from e
-  abbrev pub after_raise : TokenState → Task → ℕ → TokenState
-  after_raise t polling e = record (dispatch (e - 1) t) { stage = free; epoch = e + 1 }
-  after_raise t (first_round all started) e = record t { stage = between all started; epoch = e + 1 }
-  after_raise t (second_round all started) e = cond all (record (dispatch_all t) { stage = free; epoch = e + 1 }) (record t { stage = free; epoch = e + 1 })
 
   -- after any step, by the stage before it
   abbrev pub after_step : TokenState → List ℕ → List ℕ → Stage → Step → TokenState
@@ -203,10 +209,6 @@ module _ (records : ℕ) where
   -- a store in the active word of the pass's record
   abbrev pub SetsActive : TokenState → ℕ → Type 0
   SetsActive t at = (at ≡ active_word t.rec) × (t.rec < records) × (t.calls < 2 ^ 40)
-
-  -- by itself, or within a call of the client's
-  abbrev pub Retires : List ℕ → List ℕ → Type 0
-  Retires opens item = (at : ℕ) × (log : ℕ) × (item ≡ at ∷ log ∷ []) × ((opens ≡ []) ⊎ (opens ≡ retire ∷ at ∷ log ∷ []))
 
   -- The steps of the calls, in their order: which step a token may make at which stage, and how a call begins
   abbrev pub MayStep : TokenState → List ℕ → List ℕ → Stage → Step → Type 0
