@@ -1,3 +1,5 @@
+pub mod Dispatching
+pub mod FourLists
 mod Places
 mod Records
 mod Writing

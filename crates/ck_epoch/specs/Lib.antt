@@ -1,5 +1,7 @@
 pub mod Lists
 pub mod State
 pub mod Client
+pub mod Ends
+pub mod Calls
 pub mod Epochs
 pub mod Held

@@ -3,10 +3,22 @@
 #![tactic(auto)]
 
 mod about;
+mod answers;
 mod backlog;
 mod client;
+mod domain;
+mod ends;
 mod item;
+mod layout;
+mod opening;
+mod reading;
+#[cfg(test)]
+mod tests;
+mod writing;
 
 pub use about::About;
+pub use answers::{Closed, Poll};
 pub use client::Client;
+pub use domain::Domain;
+pub use ends::{Pass, Writer};
 pub use item::{Item, Retired};
