@@ -1,8 +1,9 @@
 pub mod Dispatching
 pub mod FourLists
-mod Places
-mod Records
-mod Writing
-mod Writer
-mod Keeps
-mod Law
+pub mod Places
+mod PassSteps
+mod WriterSteps
+mod WriterState
+pub mod Keeps
+pub mod Laws
+pub mod Moments
