@@ -18,11 +18,11 @@ use Rattle.ck_epoch.specs.Epochs.{place, IsOpen}
 use Rattle.ck_epoch.specs.Held.{IsWriting, IsReading, IsTimely, IsCurrent, IsRecord, risen, IsWriter, AreHeld}
 use Rattle.ck_epoch.proofs.Places.{count, open_cases, open_else, open_stays, not_ended}
 use Rattle.ck_epoch.proofs.Records as pass
-use Rattle.ck_epoch.proofs.Writing as record_
-use Rattle.ck_epoch.proofs.Writer as writer
-use Rattle.ck_epoch.proofs.Writer.{are_made}
+use Rattle.ck_epoch.proofs.RecordsKept as record_
+use Rattle.ck_epoch.proofs.WriterKept as writer
+use Rattle.ck_epoch.proofs.WriterKept.{are_made}
 use Rattle.ck_epoch.proofs.Records.{AreMade}
-use Rattle.ck_epoch.proofs.Writing.{at_stage}
+use Rattle.ck_epoch.proofs.RecordsKept.{at_stage}
 
 roles_apart : (g : Stage) → IsWriting g → IsReading g → ⊥
 roles_apart free a b = b

@@ -1,7 +1,8 @@
 pub mod Dispatching
 pub mod FourLists
+mod Stepping
 mod Places
 mod Records
-mod Writing
-mod Writer
+mod RecordsKept
+mod WriterKept
 mod Keeps
