@@ -6,3 +6,4 @@ mod Records
 mod RecordsKept
 mod WriterKept
 mod Keeps
+mod Law

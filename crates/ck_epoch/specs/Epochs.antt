@@ -66,7 +66,7 @@ module _ {C : Type 0} where
   abbrev pub IsSafe : Origin C → Run → Type 0
   IsSafe origin run = (past rest : Run) → run ≡ past ++ rest → IsSafeNow origin past
 
-  -- What holds at the end of a run, of the words that it leaves. `global` is the global epoch, and `own r` the epoch word of the record r
+  -- What holds at the end of a run, of the words that it leaves
   pub record AreEpochs (origin : Origin C) (run : Run) (words : List ℕ) : Type 0 where
     -- a record's epoch word is at most the global epoch
     pub behind : (r : ℕ) → r < records_of origin → own words r ≤ global words
@@ -77,7 +77,8 @@ module _ {C : Type 0} where
     -- in a scan, for each record that it passed, a number loaded at begin and an open section's epoch word are the global epoch
     pub scanned_loaded : (r g : ℕ) → r < records_of origin → IsPassed (writer_in origin run).stage r → stage_in origin run r ≡ holding g → g ≡ global words
     pub scanned_sections : (r o : ℕ) → r < records_of origin → IsPassed (writer_in origin run).stage r → IsOpen run r o → own words r ≡ global words
-    -- an item that is pending on the list j was retired at an epoch that is j modulo 4 and at most the global epoch
+    -- an item that is pending on the list j was retired at an epoch that is j modulo 4 and at most the global epoch: `IsRetired` ties it to
+    -- the load by which the writer retired it. So it does for the items that were dispatched
     pub pending : (j : ℕ) → j < 4 → All (λ (k : Retirement). IsRetired (account 0 run) k × (k.retired.epoch % 4 ≡ j) × (k.retired.epoch ≤ global words)) (on_list j (writer_in origin run).pending)
     pub dispatched : All (IsRetired (account 0 run)) (writer_in origin run).dispatched
 
