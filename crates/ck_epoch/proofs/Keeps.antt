@@ -17,12 +17,12 @@ use Rattle.ck_epoch.specs.State.{base, active_word, epoch_word, begin, end, reti
 use Rattle.ck_epoch.specs.Epochs.{place, IsOpen}
 use Rattle.ck_epoch.specs.Held.{IsWriting, IsReading, IsTimely, IsCurrent, IsRecord, risen, IsWriter, AreHeld}
 use Rattle.ck_epoch.proofs.Places.{count, open_cases, open_else, open_stays, not_ended}
-use Rattle.ck_epoch.proofs.PassSteps as pass
-use Rattle.ck_epoch.proofs.WriterSteps as record_
-use Rattle.ck_epoch.proofs.WriterState as writer
-use Rattle.ck_epoch.proofs.WriterState.{are_made}
-use Rattle.ck_epoch.proofs.PassSteps.{AreMade}
-use Rattle.ck_epoch.proofs.WriterSteps.{at_stage}
+use Rattle.ck_epoch.proofs.Records as pass
+use Rattle.ck_epoch.proofs.RecordsKept as record_
+use Rattle.ck_epoch.proofs.WriterKept as writer
+use Rattle.ck_epoch.proofs.WriterKept.{are_made}
+use Rattle.ck_epoch.proofs.Records.{AreMade}
+use Rattle.ck_epoch.proofs.RecordsKept.{at_stage}
 
 roles_apart : (g : Stage) → IsWriting g → IsReading g → ⊥
 roles_apart free a b = b

@@ -1,9 +1,10 @@
 pub mod Dispatching
 pub mod FourLists
+mod Stepping
 pub mod Places
-mod PassSteps
-mod WriterSteps
-mod WriterState
+mod Records
+mod RecordsKept
+mod WriterKept
 pub mod Keeps
-pub mod Laws
+pub mod EpochLaw
 pub mod Moments

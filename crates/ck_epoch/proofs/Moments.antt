@@ -12,7 +12,7 @@ use Rattle.ck_run.proofs.Moments.{run_weaker, run_before, at_step}
 use Rattle.ck_epoch.specs.declared.about.About.{About}
 use Rattle.ck_epoch.specs.State.{Token, TokenState, Origin, records_of, epochs, state_at, active_word, epoch_word}
 use Rattle.ck_epoch.specs.Held.{IsRecord, IsWriter}
-use Rattle.ck_epoch.proofs.Laws.{Held, held_after}
+use Rattle.ck_epoch.proofs.EpochLaw.{Held, held_after}
 
 abbrev first_or : Entry → List Entry → Entry
 first_or e [] = e

@@ -30,21 +30,19 @@ module _ {C : Type 0} (client : Client C) where
   IsInRun t = IsPart (program client) (origin t) t.view.own
 
   -- the writer between two calls. The items that its queue has are those that its account tells of
-  pub record IsWriter (t : Token C) (b : Backlog) (calls : ℕ) : Type 0 where
+  pub record IsWriter (t : Token C) (b : Backlog) : Type 0 where
     pub part : IsInRun t
     pub first : number t ≡ 0
     pub stage : (state t).stage ≡ free
     pub pending : b.pending ≡ queue (state t).pending
     pub retired : AreRetired (client.retires (origin t).config.client) b.pending
-    pub counts : (state t).calls ≤ calls
 
   -- a pass between two calls
-  pub record IsPass (t : Token C) (rec depth calls : ℕ) : Type 0 where
+  pub record IsPass (t : Token C) (rec depth : ℕ) : Type 0 where
     pub part : IsInRun t
     pub other : number t ≡ suc rec
     pub low : rec < records_of (origin t)
     pub stage : (g : ℕ) × ((state t).stage ≡ at_depth depth g)
-    pub counts : (state t).calls ≤ calls
 
   -- what a domain keeps of how it began
   pub record IsDomain (origin : Origin C) (about : About C) : Type 0 where

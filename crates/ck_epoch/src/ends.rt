@@ -21,13 +21,15 @@ pub struct Writer<C: Client, F> {
 }
 
 impl<C: Client, F> Model for Writer<C, F> {
+    ghost use Rattle.std.specs.Prelude.{◌≤◌};
+    ghost use Rattle.ck_epoch.specs.State.{state};
     ghost use Rattle.ck_epoch.specs.Ends.{Writer as WriterOf, IsWriter};
 
     ghost Value = { WriterOf C F };
 
     ghost view = { λ w. record { token = w.token; calls = w.calls; waiting = w.backlog.waiting; room = w.backlog.room; handler = w.handler; tally = w.tally } };
 
-    ghost invariant = { λ w. IsWriter C.meaning w.token w.backlog w.calls };
+    ghost invariant = { λ w. IsWriter C.meaning w.token w.backlog × ((state w.token).calls ≤ w.calls) };
 }
 
 /// The token of one record. A thread that has it is a reader.
@@ -41,13 +43,15 @@ pub struct Pass<C: Client> {
 }
 
 impl<C: Client> Model for Pass<C> {
+    ghost use Rattle.std.specs.Prelude.{◌≤◌};
+    ghost use Rattle.ck_epoch.specs.State.{state};
     ghost use Rattle.ck_epoch.specs.Ends.{Pass as PassOf, IsPass};
 
     ghost Value = { PassOf C };
 
     ghost view = { λ p. record { token = p.token; calls = p.calls; tally = p.tally } };
 
-    ghost invariant = { λ p. IsPass C.meaning p.token p.rec p.depth p.calls };
+    ghost invariant = { λ p. IsPass C.meaning p.token p.rec p.depth × ((state p.token).calls ≤ p.calls) };
 }
 
 impl<C: Client, F> Writer<C, F> {

@@ -1,20 +1,50 @@
 //! What a reader does with its pass.
-ghost use Rattle.std.specs.Prelude.{◌≡◌, ℕ, ◌+◌, ◌-◌, ◌<◌, ◌^◌, true, [], ◌∷◌};
+ghost use Rattle.std.specs.Prelude.{◌≡◌, ℕ, ◌+◌, ◌-◌, ◌<◌, ◌^◌, ◌⊎◌, true, [], ◌∷◌};
 ghost use Rattle.ck_run.specs.declared.account.Step.TheVariants.{Load, Store};
 ghost use Rattle.ck_run.specs.Run.{entry, call};
 ghost use Rattle.ck_run.specs.Tokens.{table, number, adding};
-ghost use Rattle.ck_epoch.specs.State.{depth, base_of, active_word as active, end as ends};
-ghost use Rattle.ck_epoch.specs.Ends.{IsInRun};
+ghost use Rattle.ck_epoch.specs.State.{state, depth, base_of, active_word as active, epoch_word as own, begin as begins, end as ends};
+ghost use Rattle.ck_epoch.specs.Ends.{IsInRun, IsPass};
 ghost use Rattle.ck_epoch.specs.Calls.{rec_of, Begins, MayFollow};
 
+use crate::about::About;
 use crate::client::Client;
 use crate::domain::Domain;
 use crate::ends::Pass;
 use crate::layout::{GLOBAL, active_word, base_word, epoch_word};
-use ck_run::{Continues, Opens};
+use ck_run::{Continues, Opens, Token};
 use std::marker::Brand;
 
 impl<C: Client> Domain<C> {
+    // Opens a section.
+    fn open_section(&self, token: &mut Token<About<C>>, rec: u64)
+        requires table { table token.old ≡ self.now }
+        requires outside { IsPass C.meaning token.old rec 0 }
+        requires calls { (state token.old).calls < 2 ^ 40 }
+        ensures steps { (g : ℕ) × (token.new ≡ adding token.old (call begins [] (Store (active rec) 1 ∷ Load 0 g ∷ Store (own rec) g ∷ []))) }
+        ensures inside { IsPass C.meaning token.new rec 1 }
+        ensures calls { (state token.new).calls ≡ (state token.old).calls + 1 }
+    {
+        self.words.store::<Brand>(token, active_word(rec), 1);
+        let epoch = self.words.load::<Continues>(token, GLOBAL);
+        self.words
+            .store::<Continues>(token, epoch_word(rec), epoch);
+    }
+
+    // Sets the number of nested sections, where one is open. `O` has the name of the call.
+    fn set_depth<O: Opens>(&self, token: &mut Token<About<C>>, rec: u64, from: u64, depth: u64)
+        requires table { table token.old ≡ self.now }
+        requires inside { (0 < from) × IsPass C.meaning token.old rec from }
+        requires calls { (state token.old).calls < 2 ^ 40 }
+        requires name { ((depth ≡ from + 1) × (from < 2 ^ 32) × (O.opens ≡ begins ∷ [])) ⊎ ((depth ≡ from - 1) × (O.opens ≡ ends ∷ [])) }
+        ensures step { token.new ≡ adding token.old (entry O.opens (Store (active rec) depth) ∷ []) }
+        ensures stands { IsPass C.meaning token.new rec depth }
+        ensures calls { (state token.new).calls ≡ (state token.old).calls + 1 }
+    {
+        let _from = from;
+        self.words.store::<O>(token, active_word(rec), depth);
+    }
+
     /// Opens a section, or nests one, as `ck_epoch_begin`.
     pub fn begin(&self, pass: &mut Pass<C>)
         requires table { table pass.old.token ≡ self.now }
@@ -26,17 +56,13 @@ impl<C: Client> Domain<C> {
         ensures calls { pass.new.calls ≡ pass.old.calls + 1 }
         ensures part { IsInRun C.meaning pass.new.token }
     {
-        if pass.depth == 0 {
-            self.words
-                .store::<Brand>(&mut pass.token, active_word(pass.rec), 1);
-            let epoch = self.words.load::<Continues>(&mut pass.token, GLOBAL);
-            self.words
-                .store::<Continues>(&mut pass.token, epoch_word(pass.rec), epoch);
+        let (rec, depth) = (pass.rec, pass.depth);
+        if depth == 0 {
+            self.open_section(&mut pass.token, rec);
         } else {
-            self.words
-                .store::<Brand>(&mut pass.token, active_word(pass.rec), pass.depth + 1);
+            self.set_depth::<Brand>(&mut pass.token, rec, depth, depth + 1);
         }
-        pass.depth += 1;
+        pass.depth = depth + 1;
         pass.calls += 1;
     }
 
@@ -52,9 +78,9 @@ impl<C: Client> Domain<C> {
         ensures depth { depth pass.new.token ≡ depth pass.old.token - 1 }
         ensures part { IsInRun C.meaning pass.new.token }
     {
-        self.words
-            .store::<Brand>(&mut pass.token, active_word(pass.rec), pass.depth - 1);
-        pass.depth -= 1;
+        let (rec, depth) = (pass.rec, pass.depth);
+        self.set_depth::<Brand>(&mut pass.token, rec, depth, depth - 1);
+        pass.depth = depth - 1;
         pass.calls += 1;
     }
 

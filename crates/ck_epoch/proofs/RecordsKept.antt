@@ -11,7 +11,7 @@ use Rattle.ck_epoch.specs.State.{Task, polling, first_round, second_round, Stage
 use Rattle.ck_epoch.specs.Epochs.{place, IsOpen, IsPassed, IsRetired}
 use Rattle.ck_epoch.specs.Held.{IsReading, active_of, IsTimely, IsCurrent, IsQuiet, halfway, IsGuarded, IsOpenAt, IsRecord}
 use Rattle.ck_epoch.proofs.Places.{count, place_stays, open_else}
-use Rattle.ck_epoch.proofs.PassSteps.{AreMade, open_along}
+use Rattle.ck_epoch.proofs.Records.{AreMade, open_along}
 
 -- the state with another stage
 abbrev pub at_stage : TokenState → Stage → TokenState

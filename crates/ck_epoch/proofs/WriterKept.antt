@@ -12,8 +12,8 @@ use Rattle.ck_epoch.specs.State.{Task, polling, first_round, second_round, Stage
 use Rattle.ck_epoch.specs.Epochs.{IsRetired}
 use Rattle.ck_epoch.specs.Held.{IsWriting, halfway, due, risen, IsBegun, IsScan, IsWriter}
 use Rattle.ck_epoch.proofs.Places.{inside}
-use Rattle.ck_epoch.proofs.PassSteps.{AreMade}
-use Rattle.ck_epoch.proofs.WriterSteps.{at_stage, All-four, none_some, some_same}
+use Rattle.ck_epoch.proofs.Records.{AreMade}
+use Rattle.ck_epoch.proofs.RecordsKept.{at_stage, All-four, none_some, some_same}
 
 begun_more : (steps steps' : ℕ) (task : Task) → steps ≤ steps' → IsBegun steps task → IsBegun steps' task
 begun_more steps steps' polling le b = tt

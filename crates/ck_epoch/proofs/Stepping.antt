@@ -1,0 +1,49 @@
+-- A step of a token of a domain: when the domain and its client allow it, and where it leaves the token.
+use Rattle.std.proofs.Common.{◌≡◌, ℕ, suc, ◌+◌, ◌*◌, ◌<◌, ◌≤◌, Bool, true, List, [], ◌∷◌, ◌++◌, length, get_or, refl, sym, ap, ◌∙◌, subst, arith, inl, cond, ◌==◌, eqb-true, eq-eqb, ne_eqb}
+use Rattle.ck_run.specs.declared.account.Entry.{Entry}
+use Rattle.ck_run.specs.declared.account.Step.{Step}
+use Rattle.ck_run.specs.declared.account.Step.TheVariants.{Load}
+use Rattle.ck_run.specs.Run.{Run, Fits, replay, account}
+use Rattle.ck_run.specs.Range.{word_of}
+use Rattle.ck_run.specs.Rule.{IsRun, IsPart}
+use Rattle.ck_run.specs.Machine.{follows_of}
+use Rattle.ck_run.specs.Tokens.{adding, did, number, origin, MayMake, Makes}
+use Rattle.ck_run.proofs.Law.{state-append, obeys_append}
+use Rattle.ck_run.proofs.Moments.{run_weaker, part_follows, holds_along, run_before, at_step}
+use Rattle.ck_epoch.specs.State.{Origin, Token, TokenState, base, base_of, records_of, epochs, start, next, May, state, state_at}
+use Rattle.ck_epoch.specs.Client.{Client, IsOwn, IsOthers, Passes, IsGuarded, program}
+use Rattle.ck_epoch.specs.Ends.{IsInRun}
+use Rattle.ck_epoch.specs.Calls.{MayFollow}
+
+module _ {C : Type 0} (client : Client C) where
+  abbrev pub Steps : Token C → Entry → Token C → Type 0
+  Steps t e u = Makes (program client) t e u
+
+  allowed : (t : Token C) → IsInRun client t → program client (origin t) (number t) (did t)
+  allowed t p = part_follows (program client) (origin t) t.view.own p
+
+  -- A step that the calls allow at the state, and the client after the steps before it
+  pub may_step : (t : Token C) (e : Entry) → IsInRun client t → May (records_of (origin t)) (state t) e → (0 < number t → IsGuarded client (origin t) (state t) e) → MayFollow client t e
+      → MayMake (program client) t e
+  may_step t e p may guarded follows =
+      let o = origin t in
+      let n = number t in
+      let f = allowed t p in (
+        (f.0.0, obeys_append (epochs.next o) (epochs.Allows o) (epochs.start o n) (did t) (e ∷ []) f.0.1 (may, tt)),
+        f.1,
+        (λ other. obeys_append (epochs.next o) (IsGuarded client o) (epochs.start o n) (did t) (e ∷ []) (f.2 other) (guarded other, tt)),
+        follows,
+      )
+
+  -- a step on the words of the epochs, which hands nothing over, is nothing to the client
+  pub may_epochs : Passes client → (t : Token C) (opens : List ℕ) (s : Step) → IsInRun client t → word_of s < base_of (origin t)
+      → May (records_of (origin t)) (state t) (record { opens = opens; item = []; step = s }) → MayMake (program client) t (record { opens = opens; item = []; step = s })
+  may_epochs passes t opens s p low may =
+      let o = origin t in
+      let e : Entry = record { opens = opens; item = []; step = s } in
+      may_step t e p may (λ other at found is. absurd (let a = ap word_of is in omega arith))
+      (passes (base_of o) o (number t) (did t) e (allowed t p).3 (inl low, λ at log z. absurd cc))
+
+  -- the state goes on
+  pub state_after_step : (t u : Token C) (e : Entry) → Steps t e u → state u ≡ next (records_of (origin t)) (state t) e
+  state_after_step t u e made = ap state made.0 ∙ state-append (epochs.next (origin t)) (epochs.start (origin t) (number t)) (did t) (e ∷ [])
