@@ -5,3 +5,4 @@ pub mod Ends
 pub mod Calls
 pub mod Epochs
 pub mod Held
+pub mod Rounds
