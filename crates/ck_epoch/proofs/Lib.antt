@@ -8,3 +8,5 @@ mod WriterKept
 pub mod Keeps
 pub mod EpochLaw
 pub mod Moments
+mod Waits
+mod TwoRounds
