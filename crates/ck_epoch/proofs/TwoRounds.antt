@@ -13,7 +13,7 @@ use Rattle.ck_run.proofs.Moments.{run_weaker, run_before, part_weaker, table_sta
 use Rattle.ck_epoch.specs.declared.about.About.{About}
 use Rattle.ck_epoch.specs.State.{base, synchronize, barrier, poll, Task, polling, first_round, second_round, Stage, free, scanning, comparing, between, TokenState, dispatch_all, after_load, after_raise, after_step, next, MayStep, May, Origin, Token, records_of, base_of, epochs, state, state_at}
 use Rattle.ck_epoch.specs.Epochs.{IsOpen, IsOlder}
-use Rattle.ck_epoch.specs.Held.{due, IsWriter}
+use Rattle.ck_epoch.specs.Held.{due, IsScan, IsWriter}
 use Rattle.ck_epoch.specs.Client.{Client, Passes, program}
 use Rattle.ck_epoch.specs.Ends.{IsInRun}
 use Rattle.ck_epoch.specs.Calls.{Looked}
@@ -70,5 +70,53 @@ module _ {C : Type 0} (client : Client C) (passes : Passes client) where
   -- the number of an epoch is small
   pub small : (e rec : ℕ) (t : Token C) → IsScanning client e rec t → (e ≡ (state t).epoch) × (e + 1 < 2 ^ 64)
   small e rec t i = let k = writer_knows t (state t) (in_epochs t i.part) i.first in let w = k.1 in
-      let scan = subst (IsScan_ k.0 (length (did t))) i.stage w.scan in
-      (?, ?)
+      let scan = subst (λ (g : Stage). IsScan (records_of (origin t)) k.0 (length (did t)) g) i.stage w.scan in
+      let epoch = w.epoch in let bound = w.bounded in let few = w.few in
+      (scan.0 ∙ sym epoch, (let z = scan.0 in omega arith))
+
+  -- The exchange at the end of a round, by the token t that was t0 before the first record
+  module _ (e : ℕ) (t0 t : Token C) (h : HasWaited client e (records_of (origin t)) t0 t) where
+    abbrev R : ℕ
+    R = records_of (origin t)
+
+    abbrev raise : ℕ → Step
+    raise n = Exchange 0 e (e + 1) n
+
+    pub may_raise : (n : ℕ) → MayMake (program client) t (further (raise n))
+    may_raise n = let i = h.scans in may_epochs client passes t [] (raise n) i.part (omega arith)
+        (may_at R (state t) (scanning i.task e R i.busy) [] (raise n) i.stage (refl, refl, refl, refl, (refl, refl)))
+
+    module _ (u : Token C) (found : ℕ) (made : Steps client t (further (raise found)) u) where
+      pub finds_it : found ≡ e
+      finds_it = let i = h.scans in finds_global t (state t) (in_epochs t i.part) i.first (program client) (λ n es f. f.0) u (further (raise found)) made e (e + 1) found refl
+          ∙ sym (small e R t i).0
+
+      pub round_table : table u ≡ table t0
+      round_table = table_stays (program client) t u (further (raise found)) made ∙ h.same
+
+      pub round_steps : (steps : List Step) × IsRound R e (Load 0 e ∷ steps) × (u ≡ adding t0 (map further steps))
+      round_steps = let ws = waits_steps 0 h.waits in (ws ++ raise e ∷ [], (h.waits, h.count, h.each, refl),
+          adds_one (program client) t0 t u (map further ws) (further (raise found)) h.did made
+          ∙ ap (adding t0) (ap (λ (n : ℕ). map further ws ++ further (raise n) ∷ []) finds_it ∙ sym (map-append further ws (raise e ∷ []))))
+
+      pub round_state : (task : Task) → IsWaiting task → (busy : Option ℕ) → (state t0).stage ≡ scanning task e 0 busy → state u ≡ record (after_raise (state t0) task e) { steps = (state u).steps }
+      round_state task w busy is =
+          let on = h.on task w busy is in
+          let n : ℕ = (state t).steps + 1 in
+          let raised : state u ≡ record (after_raise (state t) task e) { steps = n } = state_after_step client t u (further (raise found)) made
+              ∙ next_at R (state t) (scanning task e R on.0) [] (raise found) (ap (λ (s : TokenState). s.stage) on.1) in
+          let whole : state u ≡ record (after_raise (state t0) task e) { steps = n } = raised
+              ∙ (ap (λ (s : TokenState). record (after_raise s task e) { steps = n }) on.1
+              ∙ raise_same task w (state t0) (scanning task e R on.0) (state t).steps n e) in
+          whole ∙ λ i. record (after_raise (state t0) task e) { steps = ap (λ (s : TokenState). s.steps) (sym whole) i }
+
+-- after the last record
+module _ {C : Type 0} (t0 t : Token C) (d w : Table (About C)) (about : About C) (same : table t ≡ table t0) (here : table t0 ≡ d) (view : w ≡ d) (told : w.origin.config ≡ about) where
+  pub records_here : records_of (origin t) ≡ records_of d.origin
+  records_here = ap (λ (x : Table (About C)). records_of x.origin) (same ∙ here)
+
+  pub all_records : (rec : ℕ) → about.records ≤ rec → rec ≤ about.records → rec ≡ records_of (origin t)
+  all_records rec high low = let z : records_of (origin t) ≡ about.records = records_here ∙ (ap (λ (x : Table (About C)). records_of x.origin) (sym view) ∙ ap (λ (x : About C). x.records) told) in omega arith
+
+  pub some_record : (rec : ℕ) → rec < about.records → rec < records_of d.origin
+  some_record rec low = let z : records_of d.origin ≡ about.records = ap (λ (x : Table (About C)). records_of x.origin) (sym view) ∙ ap (λ (x : About C). x.records) told in omega arith

@@ -34,14 +34,14 @@ module _ (records : ℕ) where
   record_waits task w s e rec busy = ap (λ (b : Bool). cond b (record (dispatch_all s) { stage = free }) (record s { stage = scanning task e (rec + 1) busy })) (never_clear task w (rec + 1 == records) busy)
 
   -- the state after a step, by the stage before it
-  next_at : (s : TokenState) (g : Stage) (opens : List ℕ) (x : Step) → s.stage ≡ g → next records s (entry opens x) ≡ record (after_step records s opens [] g x) { steps = s.steps + 1 }
+  pub next_at : (s : TokenState) (g : Stage) (opens : List ℕ) (x : Step) → s.stage ≡ g → next records s (entry opens x) ≡ record (after_step records s opens [] g x) { steps = s.steps + 1 }
   next_at s g opens x is = ap (λ (y : Stage). record (after_step records s opens [] y x) { steps = s.steps + 1 }) is
 
-  may_at : (s : TokenState) (g : Stage) (opens : List ℕ) (x : Step) → s.stage ≡ g → MayStep records s opens [] g x → May records s (entry opens x)
+  pub may_at : (s : TokenState) (g : Stage) (opens : List ℕ) (x : Step) → s.stage ≡ g → MayStep records s opens [] g x → May records s (entry opens x)
   may_at s g opens x is may = subst (λ (y : Stage). MayStep records s opens [] y x) (sym is) may
 
 -- a state that is another but for the stage and the number of steps
-with_steps : (s s' : TokenState) (g : Stage) (n : ℕ) → s' ≡ record s { stage = g; steps = n } → s' ≡ record s { stage = g; steps = s'.steps }
+pub with_steps : (s s' : TokenState) (g : Stage) (n : ℕ) → s' ≡ record s { stage = g; steps = n } → s' ≡ record s { stage = g; steps = s'.steps }
 with_steps s s' g n e = e ∙ λ i. record s { stage = g; steps = ap (λ (x : TokenState). x.steps) (sym e) i }
 
 module _ {C : Type 0} (client : Client C) where
