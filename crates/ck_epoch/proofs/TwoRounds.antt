@@ -1,5 +1,6 @@
 -- The rounds of `synchronize` and `barrier`, and what holds after them.
 use Rattle.std.proofs.Common.{◌≡◌, ◌≢◌, ℕ, zero, suc, ◌+◌, ◌*◌, ◌^◌, ◌<◌, ◌≤◌, ◌⊎◌, ⊎_elim, inl, inr, Bool, true, false, cond, ◌==◌, nat_lt, Option, Some, None, List, [], ◌∷◌, ◌++◌, map, length, All, refl, sym, ap, ◌∙◌, subst, arith}
+use Rattle.std.proofs.lemmas.Bool.Decides.{nat_tests}
 use Rattle.std.proofs.lemmas.List.{map-append, append_assoc, append-nil, length-append}
 use Rattle.std.proofs.lemmas.List.Elements.{All-push, All-nil}
 use Rattle.ck_run.specs.declared.account.Step.{Step}
@@ -11,7 +12,7 @@ use Rattle.ck_run.specs.Machine.{follows_of, IsAt}
 use Rattle.ck_run.specs.Tokens.{Table, table, did, origin, number, adding, MayMake}
 use Rattle.ck_run.proofs.Moments.{run_weaker, run_before, part_weaker, table_stays, number_stays, adds_one, adding-append}
 use Rattle.ck_epoch.specs.declared.about.About.{About}
-use Rattle.ck_epoch.specs.State.{base, synchronize, barrier, poll, Task, polling, first_round, second_round, Stage, free, scanning, comparing, between, TokenState, dispatch_all, after_load, after_raise, after_step, next, MayStep, May, Origin, Token, records_of, base_of, epochs, state, state_at}
+use Rattle.ck_epoch.specs.State.{base, synchronize, barrier, poll, Task, polling, first_round, second_round, Stage, free, scanning, comparing, between, TokenState, dispatch_all, Retires, Calls, after_load, after_raise, after_step, next, MayStep, May, Origin, Token, records_of, base_of, epochs, state, state_at}
 use Rattle.ck_epoch.specs.Epochs.{IsOpen, IsOlder}
 use Rattle.ck_epoch.specs.Held.{due, IsScan, IsWriter}
 use Rattle.ck_epoch.specs.Client.{Client, Passes, program}
@@ -120,3 +121,115 @@ module _ {C : Type 0} (t0 t : Token C) (d w : Table (About C)) (about : About C)
 
   pub some_record : (rec : ℕ) → rec < about.records → rec < records_of d.origin
   some_record rec low = let z : records_of d.origin ≡ about.records = ap (λ (x : Table (About C)). records_of x.origin) (sym view) ∙ ap (λ (x : About C). x.records) told in omega arith
+
+is_small : (k : ℕ) → nat_lt 0 (base k) ≡ true
+is_small k = grind (arith, nat_tests)
+
+-- the first step of a call of this name
+begins_as : (all : Bool) (opens : List ℕ) → opens ≡ name_of all ∷ [] → (s : TokenState) (e : ℕ) → after_load s opens [] e ≡ record s { stage = scanning (first_round all s.steps) e 0 None; calls = s.calls + 1 }
+begins_as false opens name s e = ap (λ (o : List ℕ). after_load s o [] e) name
+begins_as true opens name s e = ap (λ (o : List ℕ). after_load s o [] e) name
+
+begins_by : (all : Bool) (opens : List ℕ) → opens ≡ name_of all ∷ [] → Retires opens [] ⊎ Calls poll opens [] ⊎ Calls synchronize opens [] ⊎ Calls barrier opens []
+begins_by false opens name = inr (inr (inl (name, refl)))
+begins_by true opens name = inr (inr (inr (name, refl)))
+
+-- the second round leaves what the call does
+raised_twice : (all : Bool) (s : TokenState) (e n k m : ℕ) → e ≡ s.epoch
+    → record (after_raise (record s { stage = scanning (second_round all s.steps) (e + 1) 0 None; calls = s.calls + 1; epoch = n; steps = k }) (second_round all s.steps) (e + 1)) { steps = m } ≡ after_rounds all s m
+raised_twice true s e n k m is = λ i. record (after_rounds true s m) { epoch = twice i }
+  where
+    twice : e + 1 + 1 ≡ s.epoch + 2
+    twice = omega arith
+raised_twice false s e n k m is = λ i. record (after_rounds false s m) { epoch = twice i }
+  where
+    twice : e + 1 + 1 ≡ s.epoch + 2
+    twice = omega arith
+
+-- The call up to its first round, by the token t
+module _ {C : Type 0} (client : Client C) (passes : Passes client) (t : Token C) (f : IsFree client t) (all : Bool) (opens : List ℕ) (name : opens ≡ name_of all ∷ []) where
+  abbrev S : TokenState
+  S = state t
+
+  pub may_begin : (n : ℕ) → MayMake (program client) t (entry opens (Load 0 n))
+  may_begin n = may_epochs client passes t opens (Load 0 n) f.part (omega arith) (may_at (records_of (origin t)) S free opens (Load 0 n) f.stage (inl (refl, f.few, begins_by all opens name)))
+
+  module _ (u : Token C) (e : ℕ) (made : Steps client t (entry opens (Load 0 e)) u) where
+    pub first_epoch : e ≡ S.epoch
+    first_epoch = loads_global t S (in_epochs client passes t f.part) f.first (program client) (λ n es h. h.0) u (entry opens (Load 0 e)) made e refl
+
+    begun : state u ≡ record S { stage = scanning (first_round all S.steps) e 0 None; calls = S.calls + 1; steps = S.steps + 1 }
+    begun = state_after_step client t u (entry opens (Load 0 e)) made ∙ (next_at (records_of (origin t)) S free opens (Load 0 e) f.stage
+        ∙ (ap (λ (b : Bool). record (cond b (after_load S opens [] e) S) { steps = S.steps + 1 }) (is_small (records_of (origin t)))
+        ∙ ap (λ (s : TokenState). record s { steps = S.steps + 1 }) (begins_as all opens name S e)))
+
+    pub first_scan : IsScanning client e 0 u
+    first_scan = record {
+      part = made.1;
+      first = number_stays (program client) t u (entry opens (Load 0 e)) made ∙ f.first;
+      task = first_round all S.steps;
+      busy = None;
+      waits = tt;
+      stage = ap (λ (s : TokenState). s.stage) begun;
+    }
+
+    -- the token w after the first round
+    module _ (w : Token C) (first : List Step) (did_first : w ≡ adding u (map further first)) (part : IsInRun client w)
+        (raised : (task : Task) → IsWaiting task → (busy : Option ℕ) → (state u).stage ≡ scanning task e 0 busy → state w ≡ record (after_raise (state u) task e) { steps = (state w).steps }) where
+      halfway : state w ≡ record S { stage = between all S.steps; calls = S.calls + 1; epoch = e + 1; steps = (state w).steps }
+      halfway = raised (first_round all S.steps) tt None (ap (λ (s : TokenState). s.stage) begun) ∙ ap (λ (s : TokenState). record (after_raise s (first_round all S.steps) e) { steps = (state w).steps }) begun
+
+      first_there : number w ≡ 0
+      first_there = ap number did_first ∙ (number_stays (program client) t u (entry opens (Load 0 e)) made ∙ f.first)
+
+      pub may_go_on : (n : ℕ) → MayMake (program client) w (further (Load 0 n))
+      may_go_on n = may_epochs client passes w [] (Load 0 n) part (omega arith)
+          (may_at (records_of (origin w)) (state w) (between all S.steps) [] (Load 0 n) (ap (λ (s : TokenState). s.stage) halfway) (refl, (refl, refl)))
+
+      module _ (x : Token C) (e' : ℕ) (made' : Steps client w (further (Load 0 e')) x) where
+        next_epoch : e' ≡ e + 1
+        next_epoch = loads_global w (state w) (in_epochs client passes w part) first_there (program client) (λ n es h. h.0) x (further (Load 0 e')) made' e' refl ∙ ap (λ (s : TokenState). s.epoch) halfway
+
+        again : state x ≡ record S { stage = scanning (second_round all S.steps) e' 0 None; calls = S.calls + 1; epoch = e + 1; steps = (state w).steps + 1 }
+        again = state_after_step client w x (further (Load 0 e')) made' ∙ (next_at (records_of (origin w)) (state w) (between all S.steps) [] (Load 0 e') (ap (λ (s : TokenState). s.stage) halfway)
+            ∙ ap (λ (s : TokenState). record s { stage = scanning (second_round all S.steps) e' 0 None; steps = (state w).steps + 1 }) halfway)
+
+        pub second_scan : IsScanning client e' 0 x
+        second_scan = record {
+          part = made'.1;
+          first = number_stays (program client) w x (further (Load 0 e')) made' ∙ first_there;
+          task = second_round all S.steps;
+          busy = None;
+          waits = tt;
+          stage = ap (λ (s : TokenState). s.stage) again;
+        }
+
+        -- the token y after the second
+        module _ (y : Token C) (second : List Step) (did_second : y ≡ adding x (map further second))
+            (raised' : (task : Task) → IsWaiting task → (busy : Option ℕ) → (state x).stage ≡ scanning task e' 0 busy → state y ≡ record (after_raise (state x) task e') { steps = (state y).steps }) where
+          pub both_state : state y ≡ after_rounds all S (state y).steps
+          both_state = raised' (second_round all S.steps) tt None (ap (λ (s : TokenState). s.stage) again)
+              ∙ (ap (λ (s : TokenState). record (after_raise s (second_round all S.steps) e') { steps = (state y).steps }) again
+              ∙ (ap (λ (k : ℕ). record (after_raise (record S { stage = scanning (second_round all S.steps) k 0 None; calls = S.calls + 1; epoch = e + 1; steps = (state w).steps + 1 }) (second_round all S.steps) k) { steps = (state y).steps }) next_epoch
+              ∙ raised_twice all S e (e + 1) ((state w).steps + 1) (state y).steps first_epoch))
+
+          steps_are : y ≡ adding t (entry opens (Load 0 e) ∷ map further (first ++ Load 0 e' ∷ second))
+          steps_are = did_second ∙ (ap (λ (z : Token C). adding z (map further second)) (made'.0 ∙ (ap (λ (z : Token C). adding z (further (Load 0 e') ∷ [])) (did_first ∙ ap (λ (z : Token C). adding z (map further first)) made.0)))
+              ∙ (ap (λ (z : Token C). adding (adding z (further (Load 0 e') ∷ [])) (map further second)) (adding-append t (entry opens (Load 0 e) ∷ []) (map further first))
+              ∙ (ap (λ (z : Token C). adding z (map further second)) (adding-append t (entry opens (Load 0 e) ∷ map further first) (further (Load 0 e') ∷ []))
+              ∙ (adding-append t ((entry opens (Load 0 e) ∷ map further first) ++ further (Load 0 e') ∷ []) (map further second)
+              ∙ ap (λ (es : List Entry). adding t (entry opens (Load 0 e) ∷ es)) (append_assoc (map further first) (further (Load 0 e') ∷ []) (map further second) ∙ sym (map-append further first (Load 0 e' ∷ second)))))))
+
+          pub both_rounds : (records : ℕ) → IsRound records e (Load 0 e ∷ first) → IsRound records e' (Load 0 e' ∷ second) → (n : ℕ) → opens ≡ n ∷ [] → Rounds records n S.epoch t y
+          both_rounds records a b n is = (Load 0 e ∷ first, Load 0 e' ∷ second, subst (λ (k : ℕ). IsRound records k (Load 0 e ∷ first)) first_epoch a,
+              subst (λ (k : ℕ). IsRound records k (Load 0 e' ∷ second)) (next_epoch ∙ ap (λ (k : ℕ). k + 1) first_epoch) b,
+              steps_are ∙ ap (λ (o : List ℕ). adding t (entry o (Load 0 e) ∷ map further (first ++ Load 0 e' ∷ second))) is)
+
+-- after both rounds no section is open that was open at the call
+pub have_ended : {C : Type 0} (client : Client C) (passes : Passes client) (t u : Token C) (n : ℕ) (all : Bool) → IsFree client t → origin u ≡ origin t → number u ≡ 0 → state u ≡ after_rounds all (state t) n → HaveEnded client t u
+have_ended client passes t u n all f same first is past rest run made r o low open_ older =
+    let org = origin t in
+    let epochs_run : IsRun (follows_of epochs) org past = run_before epochs org past rest (run_weaker (program client) (follows_of epochs) org (past ++ rest) (λ k es h. h.0) run) in
+    let there : state_at org 0 (account 0 past) ≡ state u = ap (state_at org 0) made ∙ (ap (λ (k : ℕ). state_at org k (did u)) (sym first) ∙ ap (λ (q : Origin _). state_at q (number u) (did u)) (sym same)) in
+    let w = (writer_knows t (state t) (in_epochs client passes t f.part) f.first).1 in
+    has_waited org past epochs_run r o (state t).steps low open_ (ap (λ (s : TokenState). s.waited) (there ∙ is)) (subst (λ (k : ℕ). IsOlder past o k) (sym w.steps) older)
