@@ -1,4 +1,4 @@
-use Rattle.ck_epoch.proofs.Law.{reclamation}
+use Rattle.ck_epoch.proofs.EpochLaw.{reclamation}
 use Rattle.ck_epoch.proofs.law.holds_after_every_run.Goals as goal
 
 pub returns : goal.returns

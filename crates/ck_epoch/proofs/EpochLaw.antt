@@ -14,7 +14,7 @@ use Rattle.ck_epoch.specs.State.{active_word, epoch_word, Stage, holding, inside
 use Rattle.ck_epoch.specs.Epochs.{place, IsOpen, IsPassed, IsRetired, writer_in, stage_in, IsSafeNow, IsSafe, AreEpochs, KeepsEpochs, HasWaited, Reclamation}
 use Rattle.ck_epoch.specs.Held.{IsTimely, IsCurrent, IsGuarded, IsOpenAt, IsRecord, AreHeld}
 use Rattle.ck_epoch.proofs.Keeps.{keeps}
-use Rattle.ck_epoch.proofs.Writing.{none_some}
+use Rattle.ck_epoch.proofs.RecordsKept.{none_some}
 
 -- a section that is open is one of its pass's stage
 pub record IsInside (global : ℕ) (older : ℕ → Type 0) (r : ℕ) (w : TokenState) (g : Stage) : Type 0 where
