@@ -1,10 +1,11 @@
 pub mod Dispatching
 pub mod FourLists
-mod Places
+pub mod Places
 mod Records
 mod RecordsKept
 mod WriterKept
-mod Keeps
-mod EpochLaw
-mod Stepping
+pub mod Keeps
+pub mod EpochLaw
+pub mod Moments
+pub mod Stepping
 mod Sections
