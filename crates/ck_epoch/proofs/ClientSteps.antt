@@ -91,22 +91,6 @@ module _ {C : Type 0} (client : Client C) where
         (λ other. absurd (let z = inv.first in omega arith))
         (subst (λ (k : ℕ). MayFollow client t (entry opens (step k))) (sym w_is) (follows is_writing))
 
-    module _ (u : Token C) (made : Steps client t (entry opens (step w)) u) where
-      asked_state : state u ≡ record (state t) { steps = (state t).steps + 1 }
-      asked_state = client_state client t inv.part rests_free opens (step w) w (on w) high u made
-
-      pub asked : IsWriter client u b
-      asked = record {
-        part = made.1;
-        first = number_stays (program client) t u (entry opens (step w)) made ∙ inv.first;
-        stage = ap (λ (s : TokenState). s.stage) asked_state ∙ inv.stage;
-        pending = inv.pending ∙ ap (λ (s : TokenState). queue s.pending) (sym asked_state);
-        retired = subst (λ (o : Origin C). AreRetired (client.retires o.config.client) b.pending) (sym (origin_stays (program client) t u (entry opens (step w)) made)) inv.retired;
-      }
-
-      pub asked_calls : (state u).calls ≡ (state t).calls
-      asked_calls = ap (λ (s : TokenState). s.calls) asked_state
-
   -- the same of a pass, which loads a guarded word within a section alone
   module _ (t : Token C) (rec depth_ : ℕ) (inv : IsPass client t rec depth_) (opens : List ℕ) (step : ℕ → Step) (on : (w : ℕ) → IsOn w (step w)) (now : Table (About C)) (at w : ℕ) (same : table t ≡ now)
       (w_is : w ≡ base_of now.origin + at) where
