@@ -1,6 +1,5 @@
 pub mod Dispatching
 pub mod FourLists
-mod Stepping
 pub mod Places
 mod Records
 mod RecordsKept
@@ -8,5 +7,9 @@ mod WriterKept
 pub mod Keeps
 pub mod EpochLaw
 pub mod Moments
+pub mod Stepping
+mod Sections
+mod ClientSteps
+mod Retiring
 mod Waits
 mod TwoRounds

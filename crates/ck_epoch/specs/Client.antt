@@ -2,7 +2,7 @@
 use Rattle.std.specs.Prelude.{◌≡◌, ℕ, ◌+◌, ◌<◌, ◌≤◌, ◌⊎◌, Bool, true, List, [], ◌++◌, ◌∷◌, length, slice_index}
 use Rattle.ck_run.specs.declared.account.Entry.{Entry}
 use Rattle.ck_run.specs.declared.account.Step.TheVariants.{Load}
-use Rattle.ck_run.specs.Range.{IsInside, IsOutside}
+use Rattle.ck_run.specs.Range.{word_of, IsInside, IsOutside}
 use Rattle.ck_run.specs.Rule.{Follows}
 use Rattle.ck_run.specs.Machine.{Obeys, follows_of}
 use Rattle.ck_words.specs.declared.back.Back.{Back}
@@ -30,11 +30,11 @@ module _ {C : Type 0} (client : Client C) where
   abbrev pub last : ℕ → Origin C → ℕ
   last first origin = first + client.size origin.config.client
 
-  -- A step that is the client's: it is on one of its words, or it hands an item of its words over. Items are placed from the first word of
-  -- the domain's client on, of which this one may be a part
+  -- A step that is the client's: it is on one of its words, or it is on a word of the epochs and hands an item of its words over.
+  -- Items are placed from the first word of the domain's client on, of which this one may be a part
   abbrev pub IsOwn : ℕ → Origin C → Entry → Type 0
   IsOwn first origin e = IsInside first (last first origin) e
-      ⊎ ((at : ℕ) × (log : ℕ) × (e.item ≡ at ∷ log ∷ []) × (first ≤ base_of origin + at) × (base_of origin + at < last first origin))
+      ⊎ ((at : ℕ) × (log : ℕ) × (e.item ≡ at ∷ log ∷ []) × (word_of e.step < base_of origin) × (first ≤ base_of origin + at) × (base_of origin + at < last first origin))
 
   -- a step that is another's
   abbrev pub IsOthers : ℕ → Origin C → Entry → Type 0

@@ -20,7 +20,7 @@ mod writing;
 
 pub use about::About;
 pub use answers::{Closed, Poll};
-pub use client::Client;
+pub use client::{Client, Within};
 pub use domain::Domain;
 pub use ends::{Pass, Writer};
 pub use item::{Item, Retired};

@@ -1,4 +1,4 @@
-use crate::{Client, Domain, Item, Pass, Poll, Writer};
+use crate::{Client, Domain, Item, Poll, Within};
 use ck_words::Back;
 use std::marker::Brand;
 use std::test::Fail;
@@ -41,6 +41,24 @@ impl Client for Counter {
     fn first(&self, _at: u64) -> u64 {
         0
     }
+}
+
+impl Within<Counter> for Counter {
+    ghost use Rattle.ck_epoch.specs.Within.{itself};
+
+    ghost place = { λ c. 0 };
+
+    ghost part = { λ c. c };
+
+    fn base(&self) -> u64 {
+        0
+    }
+
+    fn inner(&self) -> &Counter {
+        self
+    }
+
+    ghost within = { itself Self.meaning };
 }
 
 fn home(item: Item) -> Back {

@@ -1,24 +1,14 @@
-use Rattle.std.proofs.Common.{rules, ◌≡◌, ℕ, ◌+◌, ◌-◌, ◌<◌, ◌^◌, ◌⊎◌, true, [], ◌∷◌, ◌*◌, ◌≤◌, length, ◌/◌, ◌%◌, Bool, false, nat_eq, nat_lt, List, ◌++◌, slice_index_or, slice_set, bit_and, bit_or, Fits, w8, w32, w64, Bor, MutBor}
-use Rattle.ck_run.specs.declared.account.Step.TheVariants.{Load, Store}
-use Rattle.ck_run.specs.Run.{entry, call}
-use Rattle.ck_run.specs.Tokens.{table, number, adding}
-use Rattle.ck_epoch.specs.State.{state, depth, base_of}
-use Rattle.ck_epoch.specs.State.{active_word as active}
-use Rattle.ck_epoch.specs.State.{epoch_word as own}
-use Rattle.ck_epoch.specs.State.{begin as begins}
-use Rattle.ck_epoch.specs.State.{end as ends}
-use Rattle.ck_epoch.specs.Ends.{IsInRun, IsPass}
-use Rattle.ck_epoch.specs.Calls.{rec_of, Begins, MayFollow}
+use Rattle.ck_epoch.proofs.Sections.{may_enter, may_hold, may_open, is_inside, one_call, begun}
 use Rattle.ck_epoch.proofs.domain.Domain.open_section.Goals as goal
 
--- src/reading.rt:28:9
 pub store-requires-clause-may : goal.store-requires-clause-may
-store-requires-clause-may g c = ?
+store-requires-clause-may g c = may_enter g.C.Client.meaning g.met.C.Client.passes c.args.token.now c.args.rec c.requires.outside c.requires.calls c.active_word.result c.active_word.ensures
 
--- src/reading.rt:29:13
 pub load-epoch-requires-clause-may : goal.load-epoch-requires-clause-may
-load-epoch-requires-clause-may g c = ?
+load-epoch-requires-clause-may g c n _ =
+    may_hold g.C.Client.meaning g.met.C.Client.passes c.args.token.now c.args.rec c.requires.outside c.requires.calls c.store.new.token c.active_word.result c.active_word.ensures c.store.ensures.step n
 
--- src/reading.rt:30:9
 pub store-requires-2-clause-may : goal.store-requires-2-clause-may
-store-requires-2-clause-may g c = ?
+store-requires-2-clause-may g c =
+    may_open g.C.Client.meaning g.met.C.Client.passes c.args.token.now c.args.rec c.requires.outside c.requires.calls c.store.new.token c.active_word.result c.active_word.ensures c.store.ensures.step
+    c.load-epoch.new.token c.load-epoch.result c.load-epoch.ensures.step c.epoch_word.result c.epoch_word.ensures
