@@ -12,11 +12,12 @@ use Rattle.ck_run.specs.Machine.{follows_of, IsAt}
 use Rattle.ck_run.specs.Tokens.{Table, table, did, origin, number, adding, MayMake}
 use Rattle.ck_run.proofs.Moments.{run_weaker, run_before, part_weaker, table_stays, number_stays, adds_one, adding-append}
 use Rattle.ck_epoch.specs.declared.about.About.{About}
-use Rattle.ck_epoch.specs.State.{base, synchronize, barrier, poll, Task, polling, first_round, second_round, Stage, free, scanning, comparing, between, TokenState, dispatch_all, Retires, Calls, after_load, after_raise, after_step, next, MayStep, May, Origin, Token, records_of, base_of, epochs, state, state_at}
+use Rattle.ck_epoch.specs.State.{base, synchronize, barrier, poll, Task, polling, first_round, second_round, Stage, free, scanning, comparing, between, TokenState, dispatch_all, Retires, Calls, after_load, after_raise, after_step, next, MayStep, May, Origin, Token, records_of, base_of, epochs, queue, state, state_at}
 use Rattle.ck_epoch.specs.Epochs.{IsOpen, IsOlder}
 use Rattle.ck_epoch.specs.Held.{due, IsScan, IsWriter}
 use Rattle.ck_epoch.specs.Client.{Client, Passes, program}
-use Rattle.ck_epoch.specs.Ends.{IsInRun}
+use Rattle.ck_epoch.specs.Lists.{Backlog, AreRetired}
+use Rattle.ck_epoch.specs.Ends.{IsInRun, IsWriter as IsBetween}
 use Rattle.ck_epoch.specs.Calls.{Looked}
 use Rattle.ck_epoch.specs.Rounds.{wait_steps, IsWait, waits_steps, IsRound, IsWaiting, name_of, after_rounds, Rounds, HaveEnded, IsScanning, ScansOn, IsFree}
 use Rattle.ck_epoch.proofs.Stepping.{Steps, may_step, may_epochs, state_after_step}
@@ -233,3 +234,25 @@ have_ended client passes t u n all f same first is past rest run made r o low op
     let there : state_at org 0 (account 0 past) ≡ state u = ap (state_at org 0) made ∙ (ap (λ (k : ℕ). state_at org k (did u)) (sym first) ∙ ap (λ (q : Origin _). state_at q (number u) (did u)) (sym same)) in
     let w = (writer_knows t (state t) (in_epochs client passes t f.part) f.first).1 in
     has_waited org past epochs_run r o (state t).steps low open_ (ap (λ (s : TokenState). s.waited) (there ∙ is)) (subst (λ (k : ℕ). IsOlder past o k) (sym w.steps) older)
+
+-- the writer between two calls, before and after two rounds
+module _ {C : Type 0} (client : Client C) (t : Token C) (b : Backlog) (w : IsBetween client t b) where
+  pub is_free : (calls : ℕ) → (state t).calls ≤ calls → calls < 2 ^ 40 → IsFree client t
+  is_free calls counts few = record { part = w.part; first = w.first; stage = w.stage; few = omega arith }
+
+  module _ (u : Token C) (all : Bool) (n : ℕ) (part : IsInRun client u) (same : table u ≡ table t) (number_is : number u ≡ number t) (is : state u ≡ after_rounds all (state t) n) where
+    calls_after : (a : Bool) → (after_rounds a (state t) n).calls ≡ (state t).calls + 1
+    calls_after a = refl
+
+    pub counts_more : (calls : ℕ) → (state t).calls ≤ calls → (state u).calls ≤ calls + 1
+    counts_more calls counts = let z : (state u).calls ≡ (state t).calls + 1 = ap (λ (s : TokenState). s.calls) is in omega arith
+
+    -- its queue is what its account tells
+    pub writer_after : (c : Backlog) → c.pending ≡ queue (after_rounds all (state t) n).pending → AreRetired (client.retires (origin t).config.client) c.pending → IsBetween client u c
+    writer_after c pending retired = record {
+      part = part;
+      first = number_is ∙ w.first;
+      stage = ap (λ (s : TokenState). s.stage) is;
+      pending = pending ∙ ap (λ (s : TokenState). queue s.pending) (sym is);
+      retired = subst (λ (x : Table (About C)). AreRetired (client.retires x.origin.config.client) c.pending) (sym same) retired;
+    }
