@@ -11,5 +11,6 @@ pub mod Stepping
 mod Sections
 mod ClientSteps
 mod Retiring
+mod Polling
 mod Waits
 mod TwoRounds

@@ -4,6 +4,7 @@ pub mod Client
 pub mod Within
 pub mod Ends
 pub mod Calls
+pub mod Scan
 pub mod Epochs
 pub mod Held
 pub mod Rounds
