@@ -8,3 +8,4 @@ pub mod Scan
 pub mod Epochs
 pub mod Held
 pub mod Rounds
+pub mod Closing
