@@ -14,3 +14,4 @@ mod Retiring
 mod Polling
 mod Waits
 mod TwoRounds
+mod FirstWords
