@@ -15,3 +15,4 @@ mod Polling
 mod Waits
 mod TwoRounds
 mod FirstWords
+mod Parting
