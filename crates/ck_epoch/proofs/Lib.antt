@@ -12,3 +12,4 @@ mod Sections
 mod ClientSteps
 mod Retiring
 mod Polling
+mod Polled
