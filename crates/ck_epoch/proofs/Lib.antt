@@ -13,3 +13,7 @@ mod ClientSteps
 mod Retiring
 mod Polling
 mod Polled
+mod Waits
+mod TwoRounds
+mod FirstWords
+mod Parting
