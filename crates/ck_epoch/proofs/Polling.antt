@@ -1,14 +1,16 @@
 -- The steps of a poll.
 use Rattle.std.proofs.Common.{◌≡◌, ◌≢◌, ℕ, ◌+◌, ◌-◌, ◌*◌, ◌%◌, ◌<◌, ◌≤◌, ◌^◌, inl, inr, Bool, true, false, ◌&&◌, cond, ◌==◌, nat_lt, eq-eqb, ne_eqb, Option, Some, None, List, [], ◌∷◌, ◌++◌, map, length, All, length-append, refl, sym, ap, ◌∙◌, subst, arith}
+use Rattle.std.specs.Option.{unwrap_or}
 use Rattle.std.proofs.lemmas.List.{append_assoc, map-append, append-nil}
 use Rattle.std.proofs.lemmas.List.Elements.{All-push, All-nil, All-append, All-cons}
 use Rattle.ck_run.specs.declared.account.Step.{Step}
 use Rattle.ck_run.specs.declared.account.Step.TheVariants.{Load, Exchange}
 use Rattle.ck_run.specs.declared.account.Entry.{Entry}
 use Rattle.ck_run.specs.Run.{entry, further, call}
-use Rattle.ck_run.specs.Tokens.{adding, number, origin, MayMake}
+use Rattle.ck_run.specs.Tokens.{Table, table, adding, number, origin, MayMake}
 use Rattle.ck_run.proofs.Moments.{origin_stays, number_stays, adds_one}
 use Rattle.ck_epoch.specs.declared.answers.Scan.TheVariants.{Clear, Current, Behind}
+use Rattle.ck_epoch.specs.declared.about.About.{About}
 use Rattle.ck_epoch.specs.State.{Origin, Token, TokenState, Stage, Task, polling, free, scanning, comparing, base, base_of, records_of, active_word, epoch_word, Retirement, off_list, dispatch, dispatch_all, first_busy, is_clear, poll, after_load, state, epochs}
 use Rattle.ck_epoch.specs.Client.{Client, Passes, program}
 use Rattle.ck_epoch.specs.Ends.{IsInRun, IsWriting}
@@ -342,3 +344,18 @@ module _ {C : Type 0} (client : Client C) (passes : Passes client) where
             pending_is = ap (λ (y : TokenState). y.pending) s ∙ ap (off_list ((e - 1) % 4)) (at.pending ∙ ap (λ (b : Bool). cond b [] (off_list ((e - 2) % 4) (state t).pending)) waits);
           },
         )
+
+-- a record of the domain is one of the token's
+pub low_record : {C : Type 0} (client : Client C) (t u : Token C) (e rec : ℕ) (busy : Option ℕ) (now : Table (About C)) → IsScanning client t u e rec busy → table u ≡ now → rec < records_of now.origin → rec < records_of (origin t)
+low_record client t u e rec busy now at is low = subst (λ (o : Origin _). rec < records_of o) (sym (ap (λ (x : Table (About _)). x.origin) is) ∙ ap origin at.steps) low
+
+-- the first record that was active, after one more
+pub first_is : (busy : Option ℕ) (rec : ℕ) → first_busy busy rec ≡ Some (unwrap_or busy rec)
+first_is None rec = refl
+first_is (Some r) rec = refl
+
+-- after the last record
+pub end_record : {C : Type 0} (client : Client C) (t u : Token C) (e rec : ℕ) (busy : Option ℕ) (d now : Table (About C)) (about : About C) → IsScanning client t u e rec busy → table u ≡ now → d ≡ now
+    → d.origin.config ≡ about → rec ≡ about.records → IsScanning client t u e (records_of (origin t)) busy
+end_record client t u e rec busy d now about at is keeps told all = subst (λ (k : ℕ). IsScanning client t u e k busy)
+    (all ∙ (ap (λ (a : About _). a.records) (sym told) ∙ (ap (λ (x : Table (About _)). records_of x.origin) (keeps ∙ sym is) ∙ ap records_of (ap origin at.steps)))) at

@@ -121,10 +121,10 @@ impl<C: Client> Domain<C> {
             return Ok(first);
         }
         let found = self.words.load::<Continues>(token, epoch_word(rec));
-        if found != epoch {
-            return Err(found);
+        if found == epoch {
+            return Ok(Some(first.unwrap_or(rec)));
         }
-        Ok(Some(first.unwrap_or(rec)))
+        Err(found)
     }
 
     // Goes through the records in order, up to one that is active with another epoch. Where there is none, but an active one, the global
