@@ -5,7 +5,7 @@ use std::test::Fail;
 
 // One word that the writer counts up, and items that go back to the blocks.
 #[derive(Drop)]
-struct Counter;
+pub(crate) struct Counter;
 
 impl Client for Counter {
     ghost use Rattle.std.specs.Prelude.{ℕ, ◌+◌, ◌==◌, true, [], ◌∷◌};
@@ -61,7 +61,7 @@ impl Within<Counter> for Counter {
     ghost within = { itself Self.meaning };
 }
 
-fn home(item: Item) -> Back {
+pub(crate) fn home(item: Item) -> Back {
     Back {
         shelf: 1,
         at: item.at,
