@@ -67,7 +67,8 @@ fn count_up<F: Fn(Item) -> Back>(
     requires calls { writer.old.calls + 2 * times < 2 ^ 32 }
     requires room { 8 ≤ writer.old.room }
     requires handler { (i : ItemOf) → (i.log == 3) ≡ true → F.pre writer.old.handler i × ((b : BackOf) → F.post writer.old.handler i b → b ≡ record { shelf = 1; at = i.at; log = i.log }) }
-    ensures table { table writer.new.token ≡ table writer.old.token }
+    ensures same { (table writer.new.token ≡ table writer.old.token) × (writer.new.handler ≡ writer.old.handler) }
+    ensures calls { writer.new.calls ≤ writer.old.calls + 2 * times }
 {
     let mut given = 0;
     for k in 0..times {
