@@ -13,6 +13,7 @@ mod ClientSteps
 mod Retiring
 mod Polling
 mod Polled
+mod Counting
 mod Waits
 mod TwoRounds
 mod FirstWords

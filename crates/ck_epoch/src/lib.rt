@@ -14,6 +14,8 @@ mod layout;
 mod opening;
 mod reading;
 #[cfg(test)]
+mod reading_tests;
+#[cfg(test)]
 mod tests;
 mod waiting;
 #[cfg(test)]
