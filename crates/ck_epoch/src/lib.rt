@@ -29,3 +29,4 @@ pub use domain::Domain;
 pub use ends::{Pass, Writer};
 pub use item::{Item, Retired};
 pub use law::holds_after_every_run;
+pub use layout::STRIDE;
