@@ -116,7 +116,7 @@ queue_both xs ys rs ss e f = map-append (λ (k : Retirement). k.retired) xs ys �
 pub queue_by_list : (ks : List Retirement) → queue (list_by_list ks) ≡ by_list (queue ks)
 queue_by_list ks = queue_both (on_list 0 ks) (on_list 1 ks ++ (on_list 2 ks ++ on_list 3 ks)) (on 0 (queue ks)) (on 1 (queue ks) ++ (on 2 (queue ks) ++ on 3 (queue ks))) (queue_on 0 ks)
     (queue_both (on_list 1 ks) (on_list 2 ks ++ on_list 3 ks) (on 1 (queue ks)) (on 2 (queue ks) ++ on 3 (queue ks)) (queue_on 1 ks)
-      (queue_both (on_list 2 ks) (on_list 3 ks) (on 2 (queue ks)) (on 3 (queue ks)) (queue_on 2 ks) (queue_on 3 ks)))
+    (queue_both (on_list 2 ks) (on_list 3 ks) (on 2 (queue ks)) (on 3 (queue ks)) (queue_on 2 ks) (queue_on 3 ks)))
 
 -- what was dispatched before, and then these
 pub queue_behind : (before items : List Retirement) (rs : List Retired) → queue items ≡ rs → queue (before ++ items) ≡ queue before ++ rs

@@ -18,3 +18,4 @@ mod Waits
 mod TwoRounds
 mod FirstWords
 mod Parting
+pub mod Itself

@@ -134,7 +134,7 @@ begins_as : (all : Bool) (opens : List ℕ) → opens ≡ name_of all ∷ [] →
 begins_as false opens name s e = ap (λ (o : List ℕ). after_load s o [] e) name
 begins_as true opens name s e = ap (λ (o : List ℕ). after_load s o [] e) name
 
-begins_by : (all : Bool) (opens : List ℕ) → opens ≡ name_of all ∷ [] → Retires opens [] ⊎ Calls poll opens [] ⊎ Calls synchronize opens [] ⊎ Calls barrier opens []
+begins_by : (all : Bool) (opens : List ℕ) → opens ≡ name_of all ∷ [] → Retires [] ⊎ Calls poll opens [] ⊎ Calls synchronize opens [] ⊎ Calls barrier opens []
 begins_by false opens name = inr (inr (inl (name, refl)))
 begins_by true opens name = inr (inr (inr (name, refl)))
 

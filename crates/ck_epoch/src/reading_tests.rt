@@ -73,7 +73,13 @@ fn count_up<F: Fn(Item) -> Back>(
     for k in 0..times {
         domain.write::<Brand, F>(writer, 0, k + 1);
         if writer.pending() < 4 && writer.waiting() < 4 {
-            domain.call::<Brand, F>(writer, Item { at: 8 * (k % 16), log: 3 });
+            domain.call::<Brand, F>(
+                writer,
+                Item {
+                    at: 8 * (k % 16),
+                    log: 3,
+                },
+            );
         }
         domain.poll(writer);
         if domain.next_back(writer).is_some() {
@@ -85,8 +91,13 @@ fn count_up<F: Fn(Item) -> Back>(
 
 #[test]
 fn two_readers_beside_the_writer(rt: HostRuntime) -> Result<(), Fail> {
-    let (domain, mut writer, mut passes) =
-        Domain::new(rt.alloc(), Counter, 2, 8, |item: Item| home(item))?;
+    let (domain, mut writer, mut passes) = Domain::new(
+        rt.alloc(),
+        Counter,
+        2,
+        8,
+        |item: Item| home(item),
+    )?;
     let mut second = passes.pop().unwrap();
     let mut first = passes.pop().unwrap();
     let (_given, rises) = join_mut(

@@ -30,7 +30,7 @@ impl<C: Client> Domain<C> {
         requires word { at < C.meaning.size self.now.origin.config.client }
         requires client { IsWriting C.meaning writer.old.token → (n : ℕ) → n < 2 ^ 64 → MayFollow C.meaning writer.old.token (entry O.opens (Load (base_of self.now.origin + at) n)) }
         ensures step { writer.new ≡ record writer.old { token = adding writer.old.token (entry O.opens (Load (base_of self.now.origin + at) result) ∷ []) } }
-        ensures same { ((state writer.new.token).pending ≡ (state writer.old.token).pending) × ((state writer.new.token).epoch ≡ (state writer.old.token).epoch) }
+        ensures same { ((state writer.new.token).pending ≡ (state writer.old.token).pending) × ((state writer.new.token).dispatched ≡ (state writer.old.token).dispatched) × ((state writer.new.token).epoch ≡ (state writer.old.token).epoch) }
         ensures part { IsInRun C.meaning writer.new.token }
     {
         let word = base_word(self.about.records) + at as usize;
@@ -43,7 +43,7 @@ impl<C: Client> Domain<C> {
         requires word { at < C.meaning.size self.now.origin.config.client }
         requires client { IsWriting C.meaning writer.old.token → MayFollow C.meaning writer.old.token (entry O.opens (Store (base_of self.now.origin + at) value)) }
         ensures step { writer.new ≡ record writer.old { token = adding writer.old.token (entry O.opens (Store (base_of self.now.origin + at) value) ∷ []) } }
-        ensures same { ((state writer.new.token).pending ≡ (state writer.old.token).pending) × ((state writer.new.token).epoch ≡ (state writer.old.token).epoch) }
+        ensures same { ((state writer.new.token).pending ≡ (state writer.old.token).pending) × ((state writer.new.token).dispatched ≡ (state writer.old.token).dispatched) × ((state writer.new.token).epoch ≡ (state writer.old.token).epoch) }
         ensures part { IsInRun C.meaning writer.new.token }
     {
         let word = base_word(self.about.records) + at as usize;
@@ -67,14 +67,13 @@ impl<C: Client> Domain<C> {
         requires calls { writer.old.calls < 2 ^ 40 }
         requires retires { C.meaning.retires self.now.origin.config.client item ≡ true }
         requires room { length (state writer.old.token).pending + length writer.old.waiting < writer.old.room }
-        requires name { (O.opens ≡ []) ⊎ (O.opens ≡ retire ∷ item.at ∷ item.log ∷ []) }
         requires client { IsWriting C.meaning writer.old.token → (n : ℕ) → n < 2 ^ 64 → MayFollow C.meaning writer.old.token (handing O.opens (item.at ∷ item.log ∷ []) (Load 0 n)) }
         ensures step { writer.new ≡ record writer.old {
           token = adding writer.old.token (handing O.opens (item.at ∷ item.log ∷ []) (Load 0 (state writer.old.token).epoch) ∷ []);
           calls = writer.old.calls + 1;
         } }
         ensures pending { queue (state writer.new.token).pending ≡ queue (state writer.old.token).pending ++ record { item = item; epoch = (state writer.old.token).epoch } ∷ [] }
-        ensures epoch { (state writer.new.token).epoch ≡ (state writer.old.token).epoch }
+        ensures same { ((state writer.new.token).dispatched ≡ (state writer.old.token).dispatched) × ((state writer.new.token).epoch ≡ (state writer.old.token).epoch) }
         ensures part { IsInRun C.meaning writer.new.token }
     {
         let epoch = self.retire::<O, Brand>(&mut writer.token, item);
