@@ -1,0 +1,91 @@
+-- A run that is one step longer leaves the places of its entries, and the sections that are open but at a step of their own pass.
+use Rattle.std.proofs.Common.{◌≡◌, ◌≢◌, ℕ, zero, suc, ◌+◌, ◌<◌, ◌≤◌, ◌⊎◌, ⊎_elim, inl, inr, List, [], ◌∷◌, ◌++◌, length, cond, ◌==◌, eq-eqb, ne_eqb, refl, sym, ap, ◌∙◌, subst, arith}
+use mathlib.Core.Option.{some, some-injective, some-ne-none}
+use mathlib.Core.Logic.{dite}
+use native.Mathlib.Decide.{ℕ_discrete}
+use lib.ListN.{get_elem?}
+use Rattle.atomic_table.proofs.Lists.{at_longer, at_last}
+use Rattle.ck_run.specs.declared.account.Step.{Step}
+use Rattle.ck_run.specs.declared.account.Step.TheVariants.{Store}
+use Rattle.ck_run.specs.declared.account.Entry.{Entry}
+use Rattle.ck_run.specs.Run.{Run, account}
+use Rattle.ck_epoch.specs.State.{active_word, epoch_word}
+use Rattle.ck_epoch.specs.Epochs.{place, Opens, Ends, IsOpen}
+
+pub at_end : {A : Type 0} (l : List A) (a b : A) (j : ℕ) → get_elem? (l ++ a ∷ []) j ≡ some b → (get_elem? l j ≡ some b) ⊎ ((j ≡ length l) × (a ≡ b))
+at_end [] a b zero e = inr (refl, some-injective a b e)
+at_end [] a b (suc j) e = absurd (some-ne-none b (sym e))
+at_end (x ∷ xs) a b zero e = inl e
+at_end (x ∷ xs) a b (suc j) e = ⊎_elim (λ t. inl t) (λ t. inr (ap suc t.0, t.1)) (at_end xs a b j e)
+
+pub inside : {A : Type 0} (l : List A) (j : ℕ) (a : A) → get_elem? l j ≡ some a → j < length l
+inside [] j a e = absurd (some-ne-none a (sym e))
+inside (x ∷ xs) zero a e = omega arith
+inside (x ∷ xs) (suc j) a e = let h = inside xs j a e in omega arith
+
+abbrev pub count : Run → ℕ → ℕ
+count run n = length (account n run)
+
+count_mine : (x : ℕ × Entry) (run : Run) (n : ℕ) → x.0 ≡ n → count (x ∷ run) n ≡ suc (count run n)
+count_mine x run n e = ap (λ b. length (cond b (x.1 ∷ account n run) (account n run))) (eq-eqb x.0 n e)
+
+count_other : (x : ℕ × Entry) (run : Run) (n : ℕ) → x.0 ≢ n → count (x ∷ run) n ≡ count run n
+count_other x run n e = ap (λ b. length (cond b (x.1 ∷ account n run) (account n run))) (ne_eqb x.0 n e)
+
+place_mine_zero : (x : ℕ × Entry) (run : Run) (n : ℕ) → x.0 ≡ n → place (x ∷ run) n 0 ≡ 0
+place_mine_zero x run n e = ap (λ b. cond b 0 (suc (place run n 0))) (eq-eqb x.0 n e)
+
+place_other_zero : (x : ℕ × Entry) (run : Run) (n : ℕ) → x.0 ≢ n → place (x ∷ run) n 0 ≡ suc (place run n 0)
+place_other_zero x run n e = ap (λ b. cond b 0 (suc (place run n 0))) (ne_eqb x.0 n e)
+
+place_mine : (x : ℕ × Entry) (run : Run) (n i : ℕ) → x.0 ≡ n → place (x ∷ run) n (suc i) ≡ suc (place run n i)
+place_mine x run n i e = ap (λ b. suc (place run n (cond b i (suc i)))) (eq-eqb x.0 n e)
+
+place_other : (x : ℕ × Entry) (run : Run) (n i : ℕ) → x.0 ≢ n → place (x ∷ run) n (suc i) ≡ suc (place run n (suc i))
+place_other x run n i e = ap (λ b. suc (place run n (cond b i (suc i)))) (ne_eqb x.0 n e)
+
+-- the place of an earlier entry stays
+pub place_stays : (run : Run) (t : ℕ × Entry) (n i : ℕ) → i < count run n → place (run ++ t ∷ []) n i ≡ place run n i
+place_stays [] t n i l = absurd (omega arith)
+place_stays (x ∷ run) t n zero l = dite (ℕ_discrete x.0 n)
+    (λ e. place_mine_zero x (run ++ t ∷ []) n e ∙ sym (place_mine_zero x run n e))
+    (λ o. let m = count_other x run n o in place_other_zero x (run ++ t ∷ []) n o ∙ (ap suc (place_stays run t n 0 (omega arith)) ∙ sym (place_other_zero x run n o)))
+place_stays (x ∷ run) t n (suc i) l = dite (ℕ_discrete x.0 n)
+    (λ e. let m = count_mine x run n e in place_mine x (run ++ t ∷ []) n i e ∙ (ap suc (place_stays run t n i (omega arith)) ∙ sym (place_mine x run n i e)))
+    (λ o. let m = count_other x run n o in place_other x (run ++ t ∷ []) n i o ∙ (ap suc (place_stays run t n (suc i) (omega arith)) ∙ sym (place_other x run n i o)))
+
+-- an earlier entry stands before the end
+pub place_below : (run : Run) (n i : ℕ) → i < count run n → place run n i < length run
+place_below [] n i l = absurd (omega arith)
+place_below (x ∷ run) n zero l = dite (ℕ_discrete x.0 n)
+    (λ e. let z = place_mine_zero x run n e in omega arith)
+    (λ o. let m = count_other x run n o in let z = place_other_zero x run n o in let h = place_below run n 0 (omega arith) in omega arith)
+place_below (x ∷ run) n (suc i) l = dite (ℕ_discrete x.0 n)
+    (λ e. let m = count_mine x run n e in let z = place_mine x run n i e in let h = place_below run n i (omega arith) in omega arith)
+    (λ o. let m = count_other x run n o in let z = place_other x run n i o in let h = place_below run n (suc i) (omega arith) in omega arith)
+
+pub opened_before : (run : Run) (r o : ℕ) → IsOpen run r o → o < length run
+opened_before run r o h = inside run o (suc r, h.opens.0) h.opens.2
+
+module _ (past : Run) (n : ℕ) (e : Entry) (r o : ℕ) (h : IsOpen (past ++ (n, e) ∷ []) r o) where
+  -- a section that is open was open before, or this very step opened it
+  pub open_cases : IsOpen past r o ⊎ ((o ≡ length past) × (n ≡ suc r) × ((g : ℕ) × (e.step ≡ Store (epoch_word r) g)))
+  open_cases = ⊎_elim
+      (λ (old : get_elem? past o ≡ some (suc r, h.opens.0)). inl record {
+        opens = (h.opens.0, h.opens.1, old, h.opens.3);
+        lasts = λ c after ends. h.lasts c after (ends.0, at_longer past ((n, e) ∷ []) c (suc r, ends.0) ends.1, ends.2);
+      })
+      (λ (new : (o ≡ length past) × ((n, e) ≡ (suc r, h.opens.0))). inr (new.0, ap (λ (x : ℕ × Entry). x.0) new.1, (h.opens.1, ap (λ (x : ℕ × Entry). x.1.step) new.1 ∙ h.opens.3)))
+      (at_end past (n, e) (suc r, h.opens.0) o h.opens.2)
+
+  -- a step of another token
+  pub open_else : n ≢ suc r → IsOpen past r o
+  open_else other = ⊎_elim (λ old. old) (λ new. absurd (other new.1)) open_cases
+
+  -- a step on other words
+  pub open_stays : ((g : ℕ) → e.step ≢ Store (epoch_word r) g) → IsOpen past r o
+  open_stays other = ⊎_elim (λ old. old) (λ new. absurd (other new.2.0 new.2.1)) open_cases
+
+  -- it does not end at this step
+  pub not_ended : IsOpen past r o → n ≡ suc r → e.step ≡ Store (active_word r) 0 → ⊥
+  not_ended old mine ends = h.lasts (length past) (opened_before past r o old) (e, at_last past (n, e) (length past) refl ∙ ap (λ (k : ℕ). some (k, e)) mine, ends)

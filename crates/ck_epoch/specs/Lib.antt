@@ -1,0 +1,11 @@
+pub mod Lists
+pub mod State
+pub mod Client
+pub mod Within
+pub mod Ends
+pub mod Calls
+pub mod Scan
+pub mod Epochs
+pub mod Held
+pub mod Rounds
+pub mod Closing

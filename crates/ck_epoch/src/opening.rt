@@ -1,0 +1,137 @@
+//! How a domain is made, and what it leaves.
+ghost use Rattle.std.specs.Prelude.{◌≡◌, ℕ, ◌+◌, ◌<◌, ◌≤◌, ◌^◌, [], length, vec_len, vec_capacity, IfOk, All};
+ghost use Rattle.ck_run.specs.Tokens.{table, number};
+ghost use Rattle.ck_epoch.specs.State.{records_of};
+ghost use Rattle.ck_epoch.specs.Lists.{Answers};
+ghost use Rattle.ck_epoch.specs.Closing.{opened, AreOpening, keeping, fresh, AreFresh, joined_all, IsClosedDomain};
+
+use crate::about::About;
+use crate::answers::Closed;
+use crate::backlog::Backlog;
+use crate::client::Client;
+use crate::domain::{Calls, Domain};
+use crate::ends::{Pass, Writer};
+use crate::item::Item;
+use crate::layout::{FIRST_EPOCH, GLOBAL, base_word, epoch_word};
+use ck_run::{Opening, Token, Words};
+use ck_words::Back;
+use std::alloc::{AllocError, Global};
+
+// The words at opening.
+fn opening_words<C: Client>(alloc: Global, client: &C, records: u64) -> Result<Vec<u64>, AllocError>
+    requires records { (1 ≤ records) × (records ≤ 64) }
+    requires size { C.meaning.size client.now ≤ 2 ^ 33 }
+    ensures { IfOk result (λ words. AreOpening C.meaning (opened client.now records words.items)) }
+{
+    let base = base_word(records);
+    let size = client.words();
+    let mut words = vec![in alloc; 0u64; base + size as usize]?;
+    words[GLOBAL] = FIRST_EPOCH;
+    for rec in 0..records {
+        words[epoch_word(rec)] = FIRST_EPOCH;
+    }
+    for at in 0..size {
+        words[base + at as usize] = client.first(at);
+    }
+    Ok(words)
+}
+
+impl<C: Client + Drop> Domain<C> {
+    // The passes of the accounts that the first token keeps.
+    fn part_all(
+        words: &Words<About<C>, Calls<C>>,
+        token: &mut Token<About<C>>,
+        passes: &mut Vec<Pass<C>>,
+        records: u64,
+    )
+        requires token { token.old ≡ record { id = words.now.id; view = keeping words.now.origin 1 records } }
+        requires opening { AreOpening C.meaning words.now.origin × (records_of words.now.origin ≡ records) }
+        requires room { (passes.old.items ≡ []) × (records ≤ vec_capacity passes.old) }
+        ensures token { token.new ≡ fresh words.now 0 }
+        ensures passes { (vec_len passes.new ≡ records) × AreFresh words.now 1 passes.new.items }
+    {
+        for rec in 0..records {
+            let other = words.part(token);
+            passes.push_reserved(Pass {
+                token: other,
+                rec,
+                depth: 0,
+                calls: 0,
+                tally: 0,
+            });
+        }
+    }
+
+    /// A domain over the words of `client`, with its writer and the passes of its records, in their order. The writer has room for so
+    /// many items and answers, and keeps the handler. The only error is want of memory.
+    pub fn new<F: Fn(Item) -> Back + Drop>(
+        alloc: Global,
+        client: C,
+        records: u64,
+        room: u64,
+        handler: F,
+    ) -> Result<(Domain<C>, Writer<C, F>, Vec<Pass<C>>), AllocError>
+        requires records { (1 ≤ records) × (records ≤ 64) }
+        requires size { C.meaning.size client ≤ 2 ^ 33 }
+        requires room { room ≤ 2 ^ 20 }
+        requires handler { Answers (C.meaning.retires client) (C.meaning.home client) (F.pre handler) (F.post handler) }
+        ensures about { IfOk result (λ r. r.0.origin.config ≡ record { client = client; records = records }) }
+        ensures words { IfOk result (λ r. AreOpening C.meaning r.0.origin) }
+        ensures writer { IfOk result (λ r. r.1 ≡ record { token = fresh r.0 0; calls = 0; waiting = []; room = room; handler = handler; tally = 0 }) }
+        ensures passes { IfOk result (λ r. (vec_len r.2 ≡ records) × AreFresh r.0 1 r.2.items) }
+    {
+        let mut passes = Vec::with_capacity(alloc, records as usize)?;
+        let backlog = Backlog::new(alloc, room as usize)?;
+        let opening = Opening {
+            words: opening_words(alloc, &client, records)?,
+            tokens: records + 1,
+            config: About { client, records },
+        };
+        let (words, mut token) = Words::new(alloc, &opening)?;
+        Domain::part_all(&words, &mut token, &mut passes, records);
+        let writer = Writer {
+            token,
+            backlog,
+            handler,
+            calls: 0,
+            tally: 0,
+        };
+        let Opening { config: about, .. } = opening;
+        Ok((Domain { words, about }, writer, passes))
+    }
+
+    // Joins the passes' tokens into the writer's.
+    fn join_all(
+        words: &Words<About<C>, Calls<C>>,
+        token: &mut Token<About<C>>,
+        passes: Vec<Pass<C>>,
+    )
+        requires tables { (table token.old ≡ words.now) × All (λ p. table p.token ≡ words.now) passes.items }
+        ensures table { table token.new ≡ table token.old }
+        ensures view { token.new.view ≡ joined_all token.old.view passes.items }
+    {
+        for pass in passes {
+            let Pass { token: other, .. } = pass;
+            words.join(token, other);
+        }
+    }
+
+    /// The words of the client as they were left. The writer and the passes are given back: what they did are the parts of one true run,
+    /// and in it nothing was dispatched while a section that is older was open.
+    pub fn close<F: Drop>(self, writer: Writer<C, F>, passes: Vec<Pass<C>>) -> Closed
+        requires writer { table writer.token ≡ self }
+        requires passes { All (λ p. table p.token ≡ self) passes.items }
+        ensures count { vec_len result.words ≡ C.meaning.size self.origin.config.client }
+        ensures run { IsClosedDomain C.meaning writer.token passes.items result.words.items }
+    {
+        let Domain { words, about } = self;
+        let Writer { mut token, .. } = writer;
+        Domain::join_all(&words, &mut token, passes);
+        let base = base_word(about.records);
+        let mut left = words.close(token);
+        let size = left.len() - base;
+        left.rotate_left(base);
+        left.truncate(size);
+        Closed { words: left }
+    }
+}
