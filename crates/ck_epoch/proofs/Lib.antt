@@ -9,3 +9,4 @@ pub mod EpochLaw
 pub mod Moments
 pub mod Stepping
 mod Sections
+mod ClientSteps

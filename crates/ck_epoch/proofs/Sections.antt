@@ -112,3 +112,43 @@ module _ {C : Type 0} (client : Client C) (passes : Passes client) where
           pub begun : z ≡ adding t (call begin [] (Store (active_word rec) 1 ∷ Load 0 g ∷ Store (epoch_word rec) g ∷ []))
           begun = adds_one (program client) t v z (enters w ∷ further (Load 0 g) ∷ []) (further (Store x g)) (adds_one (program client) t u v (enters w ∷ []) (further (Load 0 g)) entered.0 held) opened
               ∙ ap (λ (p : ℕ × ℕ). adding t (call begin [] (Store p.0 1 ∷ Load 0 g ∷ Store p.1 g ∷ []))) (λ i. (w_is i, x_is i))
+
+  -- `begin` and `end` of a pass that has a section open
+  module _ (t : Token C) (rec d : ℕ) (open_ : 0 < d) (at : IsPass client t rec d) (few : (state t).calls < 2 ^ 40) (opens : List ℕ) (n : ℕ)
+      (name : ((n ≡ d + 1) × (d < 2 ^ 32) × (opens ≡ begin ∷ [])) ⊎ ((n ≡ d - 1) × (opens ≡ end ∷ []))) where
+    abbrev sets : ℕ → Entry
+    sets w = entry opens (Store w n)
+
+    is_open : (k : ℕ) (g : ℕ) → 0 < k → at_depth k g ≡ inside k g
+    is_open zero g b = absurd (omega arith)
+    is_open (suc k) g b = refl
+
+    abbrev g : ℕ
+    g = at.stage.0
+
+    at_depth_d : Went t t (record (state t) { stage = inside d g })
+    at_depth_d = at_stage t (inside d g) at.part (at.stage.1 ∙ is_open d g open_)
+
+    pub may_set : (w : ℕ) → w ≡ active_word rec → MayMake (program client) t (sets w)
+    may_set w e =
+        let l = low_active rec (records_of (origin t)) at.low in
+        let r = pass_holds client t rec at.part at.other in
+        may_go t t opens (Store w n) (record (state t) { stage = inside d g }) at_depth_d (omega arith)
+        (inl ((e ∙ ap active_word (sym r), (let k = at.low in omega arith), few), ⊎_elim (λ b. inl (b.0, b.1, (b.2, refl))) (λ b. inr (b.0, (b.1, refl))) name))
+
+    module _ (u : Token C) (w : ℕ) (w_is : w ≡ active_word rec) (made : Steps client t (sets w) u) where
+      at_set : Went t u (record (state t) { stage = at_depth n g; calls = (state t).calls + 1; steps = (state t).steps + 1 })
+      at_set = let l = low_active rec (records_of (origin t)) at.low in let b = lt_yes w (base (records_of (origin t))) (omega arith) in
+          subst (λ (c : Bool). Went t u (record (cond c (record (state t) { stage = at_depth n g; calls = (state t).calls + 1 }) (record (state t) { stage = inside d g })) { steps = (state t).steps + 1 })) b
+          (goes t t u (sets w) (record (state t) { stage = inside d g }) at_depth_d made)
+
+      pub is_set : IsPass client u rec n
+      is_set = record {
+        part = at_set.part;
+        other = at_set.number ∙ at.other;
+        low = subst (λ (o : Origin C). rec < records_of o) (sym at_set.same) at.low;
+        stage = (g, ap (λ (s : TokenState). s.stage) at_set.state);
+      }
+
+      pub set_calls : (state u).calls ≡ (state t).calls + 1
+      set_calls = ap (λ (s : TokenState). s.calls) at_set.state

@@ -29,6 +29,17 @@ module _ {C : Type 0} (client : Client C) where
   abbrev pub IsInRun : Token C → Type 0
   IsInRun t = IsPart (program client) (origin t) t.view.own
 
+  -- the writer's token, and that of a pass, in a true run. This much a caller may use where it shows that the client allows a step
+  pub record IsWriting (t : Token C) : Type 0 where
+    pub part : IsInRun t
+    pub first : number t ≡ 0
+
+  pub record IsReading (t : Token C) : Type 0 where
+    pub part : IsInRun t
+    pub rec : ℕ
+    pub other : number t ≡ suc rec
+    pub low : rec < records_of (origin t)
+
   -- the writer between two calls. The items that its queue has are those that its account tells of
   pub record IsWriter (t : Token C) (b : Backlog) : Type 0 where
     pub part : IsInRun t

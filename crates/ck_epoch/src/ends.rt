@@ -3,6 +3,7 @@
 ghost use Rattle.std.specs.Prelude.{◌≡◌, ◌+◌, ◌<◌, ◌^◌, length};
 ghost use Rattle.ck_run.specs.Tokens.{number};
 ghost use Rattle.ck_epoch.specs.State.{state, depth};
+ghost use Rattle.ck_epoch.specs.Ends.{IsWriting, IsReading};
 
 use crate::about::About;
 use crate::backlog::Backlog;
@@ -78,7 +79,8 @@ impl<C: Client, F> Writer<C, F> {
 
     /// A number that the client keeps here. It is 0 at opening.
     pub fn tally(&self) -> u64
-        ensures { result ≡ self.now.tally }
+        ensures tally { result ≡ self.now.tally }
+        ensures writing { IsWriting C.meaning self.now.token }
     {
         self.tally
     }
@@ -96,7 +98,8 @@ impl<C: Client, F> Writer<C, F> {
 impl<C: Client> Pass<C> {
     /// The number of its record, from 0.
     pub fn rec(&self) -> u64
-        ensures { result + 1 ≡ number self.now.token }
+        ensures rec { result + 1 ≡ number self.now.token }
+        ensures reading { IsReading C.meaning self.now.token }
     {
         self.rec
     }
@@ -117,7 +120,8 @@ impl<C: Client> Pass<C> {
 
     /// A number that the client keeps here. It is 0 at opening.
     pub fn tally(&self) -> u64
-        ensures { result ≡ self.now.tally }
+        ensures tally { result ≡ self.now.tally }
+        ensures reading { IsReading C.meaning self.now.token }
     {
         self.tally
     }

@@ -4,7 +4,7 @@ ghost use Rattle.ck_run.specs.declared.account.Step.TheVariants.{Load, Store};
 ghost use Rattle.ck_run.specs.Run.{entry, call};
 ghost use Rattle.ck_run.specs.Tokens.{table, number, adding};
 ghost use Rattle.ck_epoch.specs.State.{state, depth, base_of, active_word as active, epoch_word as own, begin as begins, end as ends};
-ghost use Rattle.ck_epoch.specs.Ends.{IsInRun, IsPass};
+ghost use Rattle.ck_epoch.specs.Ends.{IsInRun, IsReading, IsPass};
 ghost use Rattle.ck_epoch.specs.Calls.{rec_of, Begins, MayFollow};
 
 use crate::about::About;
@@ -89,7 +89,7 @@ impl<C: Client> Domain<C> {
         requires table { table pass.old.token ≡ self.now }
         requires word { at < C.meaning.size self.now.origin.config.client }
         requires section { C.meaning.guarded self.now.origin.config.client at ≡ true → 0 < depth pass.old.token }
-        requires client { (n : ℕ) → n < 2 ^ 64 → MayFollow C.meaning pass.old.token (entry O.opens (Load (base_of self.now.origin + at) n)) }
+        requires client { IsReading C.meaning pass.old.token → (n : ℕ) → n < 2 ^ 64 → MayFollow C.meaning pass.old.token (entry O.opens (Load (base_of self.now.origin + at) n)) }
         ensures step { pass.new ≡ record pass.old { token = adding pass.old.token (entry O.opens (Load (base_of self.now.origin + at) result) ∷ []) } }
         ensures part { IsInRun C.meaning pass.new.token }
     {
@@ -101,7 +101,7 @@ impl<C: Client> Domain<C> {
     pub fn tell<O: Opens>(&self, pass: &mut Pass<C>, at: u64, value: u64)
         requires table { table pass.old.token ≡ self.now }
         requires word { at < C.meaning.size self.now.origin.config.client }
-        requires client { MayFollow C.meaning pass.old.token (entry O.opens (Store (base_of self.now.origin + at) value)) }
+        requires client { IsReading C.meaning pass.old.token → MayFollow C.meaning pass.old.token (entry O.opens (Store (base_of self.now.origin + at) value)) }
         ensures step { pass.new ≡ record pass.old { token = adding pass.old.token (entry O.opens (Store (base_of self.now.origin + at) value) ∷ []) } }
         ensures part { IsInRun C.meaning pass.new.token }
     {

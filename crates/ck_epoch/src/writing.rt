@@ -7,7 +7,7 @@ ghost use Rattle.ck_run.specs.Tokens.{table, number, adding, MayMake, Makes};
 ghost use Rattle.ck_epoch.specs.State.{state, queue, base_of, records_of, retire};
 ghost use Rattle.ck_epoch.specs.Lists.{homes, Answers};
 ghost use Rattle.ck_epoch.specs.Client.{program};
-ghost use Rattle.ck_epoch.specs.Ends.{IsInRun};
+ghost use Rattle.ck_epoch.specs.Ends.{IsInRun, IsWriting};
 ghost use Rattle.ck_epoch.specs.Calls.{MayFollow, Polls, gone, kept, count_of, epoch_after};
 
 use crate::about::About;
@@ -26,7 +26,7 @@ impl<C: Client> Domain<C> {
     pub fn ask<O: Opens, F>(&self, writer: &mut Writer<C, F>, at: u64) -> u64
         requires table { table writer.old.token ≡ self.now }
         requires word { at < C.meaning.size self.now.origin.config.client }
-        requires client { (n : ℕ) → n < 2 ^ 64 → MayFollow C.meaning writer.old.token (entry O.opens (Load (base_of self.now.origin + at) n)) }
+        requires client { IsWriting C.meaning writer.old.token → (n : ℕ) → n < 2 ^ 64 → MayFollow C.meaning writer.old.token (entry O.opens (Load (base_of self.now.origin + at) n)) }
         ensures step { writer.new ≡ record writer.old { token = adding writer.old.token (entry O.opens (Load (base_of self.now.origin + at) result) ∷ []) } }
         ensures part { IsInRun C.meaning writer.new.token }
     {
@@ -38,7 +38,7 @@ impl<C: Client> Domain<C> {
     pub fn write<O: Opens, F>(&self, writer: &mut Writer<C, F>, at: u64, value: u64)
         requires table { table writer.old.token ≡ self.now }
         requires word { at < C.meaning.size self.now.origin.config.client }
-        requires client { MayFollow C.meaning writer.old.token (entry O.opens (Store (base_of self.now.origin + at) value)) }
+        requires client { IsWriting C.meaning writer.old.token → MayFollow C.meaning writer.old.token (entry O.opens (Store (base_of self.now.origin + at) value)) }
         ensures step { writer.new ≡ record writer.old { token = adding writer.old.token (entry O.opens (Store (base_of self.now.origin + at) value) ∷ []) } }
         ensures part { IsInRun C.meaning writer.new.token }
     {
@@ -64,7 +64,7 @@ impl<C: Client> Domain<C> {
         requires retires { C.meaning.retires self.now.origin.config.client item ≡ true }
         requires room { length (state writer.old.token).pending + length writer.old.waiting < writer.old.room }
         requires name { (O.opens ≡ []) ⊎ (O.opens ≡ retire ∷ item.at ∷ item.log ∷ []) }
-        requires client { (n : ℕ) → n < 2 ^ 64 → MayFollow C.meaning writer.old.token (handing O.opens (item.at ∷ item.log ∷ []) (Load 0 n)) }
+        requires client { IsWriting C.meaning writer.old.token → (n : ℕ) → n < 2 ^ 64 → MayFollow C.meaning writer.old.token (handing O.opens (item.at ∷ item.log ∷ []) (Load 0 n)) }
         ensures step { writer.new ≡ record writer.old {
             token = adding writer.old.token (handing O.opens (item.at ∷ item.log ∷ []) (Load 0 (state writer.old.token).epoch) ∷ []);
             calls = writer.old.calls + 1
