@@ -10,3 +10,4 @@ pub mod Moments
 pub mod Stepping
 mod Sections
 mod ClientSteps
+mod Retiring

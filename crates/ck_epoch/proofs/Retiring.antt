@@ -1,0 +1,75 @@
+-- The load by which the writer retires an item.
+use Rattle.std.proofs.Common.{◌≡◌, ℕ, ◌+◌, ◌<◌, ◌≤◌, ◌^◌, ◌⊎◌, inl, inr, Bool, true, cond, nat_lt, List, [], ◌∷◌, ◌++◌, refl, sym, ap, ◌∙◌, subst, arith}
+use Rattle.std.proofs.lemmas.List.{map-append}
+use Rattle.std.proofs.lemmas.List.Elements.{All-push}
+use Rattle.std.proofs.lemmas.Bool.Decides.{nat_tests}
+use Rattle.ck_run.specs.declared.account.Step.TheVariants.{Load}
+use Rattle.ck_run.specs.declared.account.Entry.{Entry}
+use Rattle.ck_run.specs.Run.{handing}
+use Rattle.ck_run.specs.Tokens.{adding, number, origin, MayMake}
+use Rattle.ck_run.proofs.Moments.{origin_stays, number_stays}
+use Rattle.ck_epoch.specs.declared.item.Item.{Item}
+use Rattle.ck_epoch.specs.declared.item.Retired.{Retired}
+use Rattle.ck_epoch.specs.State.{Origin, Token, TokenState, Stage, free, base, records_of, retire, Retirement, retirement, queue, after_step, next, MayStep, state}
+use Rattle.ck_epoch.specs.Lists.{Backlog, AreRetired}
+use Rattle.ck_epoch.specs.Client.{Client, program}
+use Rattle.ck_epoch.specs.Ends.{Writer, IsWriting, IsWriter}
+use Rattle.ck_epoch.specs.Calls.{MayFollow}
+use Rattle.ck_epoch.proofs.Stepping.{Steps, may_step, state_after_step, writer_loads}
+
+lt_first : (R : ℕ) → nat_lt 0 (base R) ≡ true
+lt_first R = let b : 0 < base R = omega arith in grind (arith, nat_tests)
+
+-- the token after the load that hands the item over and finds the global epoch
+abbrev pub loaded : {C : Type 0} → List ℕ → Item → Token C → Token C
+loaded opens i t = adding t (handing opens (i.at ∷ i.log ∷ []) (Load 0 (state t).epoch) ∷ [])
+
+-- a writer as contracts see it, of equal parts
+pub closed : {C F : Type 0} (u v : Token C) (b d : Backlog) (calls : ℕ) (handler : F) (tally : ℕ) → u ≡ v → b ≡ d
+    → ◌≡◌ {A = Writer C F} (record { token = u; calls = calls; waiting = b.waiting; room = b.room; handler = handler; tally = tally })
+        (record { token = v; calls = calls; waiting = d.waiting; room = d.room; handler = handler; tally = tally })
+closed u v b d calls handler tally e f = λ i. record { token = e i; calls = calls; waiting = (f i).waiting; room = (f i).room; handler = handler; tally = tally }
+
+module _ {C : Type 0} (client : Client C) (t : Token C) (b : Backlog) (inv : IsWriter client t b) (few : (state t).calls < 2 ^ 40) (i : Item) (opens : List ℕ)
+    (name : (opens ≡ []) ⊎ (opens ≡ retire ∷ i.at ∷ i.log ∷ [])) where
+  abbrev hands : ℕ → Entry
+  hands n = handing opens (i.at ∷ i.log ∷ []) (Load 0 n)
+
+  pub may_retire : (n : ℕ) → (IsWriting client t → MayFollow client t (hands n)) → MayMake (program client) t (hands n)
+  may_retire n follows = may_step client t (hands n) inv.part
+      (subst (λ (g : Stage). MayStep (records_of (origin t)) (state t) opens (i.at ∷ i.log ∷ []) g (Load 0 n)) (sym inv.stage) (inl (refl, few, inl (i.at, i.log, refl, name))))
+      (λ other. absurd (let z = inv.first in omega arith))
+      (follows (record { part = inv.part; first = inv.first }))
+
+  module _ (u : Token C) (n : ℕ) (made : Steps client t (hands n) u) where
+    abbrev retires : TokenState
+    retires = record (state t) { stage = free; calls = (state t).calls + 1; pending = (state t).pending ++ retirement (state t).steps i.at i.log n ∷ []; steps = (state t).steps + 1 }
+
+    retired_state : state u ≡ retires
+    retired_state = state_after_step client t u (hands n) made
+        ∙ (ap (λ (g : Stage). record (after_step (records_of (origin t)) (state t) opens (i.at ∷ i.log ∷ []) g (Load 0 n)) { steps = (state t).steps + 1 }) inv.stage
+        ∙ ap (λ (c : Bool). record (cond c (record (state t) { stage = free; calls = (state t).calls + 1; pending = (state t).pending ++ retirement (state t).steps i.at i.log n ∷ [] }) (state t)) { steps = (state t).steps + 1 })
+          (lt_first (records_of (origin t))))
+
+    pub finds_epoch : n ≡ (state t).epoch
+    finds_epoch = writer_loads client t u (hands n) n inv.part inv.first made refl
+
+    pub queued : queue (state u).pending ≡ queue (state t).pending ++ record { item = i; epoch = n } ∷ []
+    queued = ap (λ (s : TokenState). queue s.pending) retired_state ∙ map-append (λ (k : Retirement). k.retired) (state t).pending (retirement (state t).steps i.at i.log n ∷ [])
+
+    pub retired_epoch : (state u).epoch ≡ (state t).epoch
+    retired_epoch = ap (λ (s : TokenState). s.epoch) retired_state
+
+    pub retired_calls : (state u).calls ≡ (state t).calls + 1
+    retired_calls = ap (λ (s : TokenState). s.calls) retired_state
+
+    pub retired : (b' : Backlog) → b' ≡ record b { pending = b.pending ++ record { item = i; epoch = n } ∷ [] } → client.retires (origin t).config.client i ≡ true → IsWriter client u b'
+    retired b' is may = record {
+      part = made.1;
+      first = number_stays (program client) t u (hands n) made ∙ inv.first;
+      stage = ap (λ (s : TokenState). s.stage) retired_state;
+      pending = ap (λ (c : Backlog). c.pending) is ∙ (ap (λ (rs : List Retired). rs ++ record { item = i; epoch = n } ∷ []) inv.pending ∙ sym queued);
+      retired = subst (λ (o : Origin C). AreRetired (client.retires o.config.client) b'.pending) (sym (origin_stays (program client) t u (hands n) made))
+          (subst (λ (c : Backlog). AreRetired (client.retires (origin t).config.client) c.pending) (sym is)
+            (All-push (λ (r : Retired). client.retires (origin t).config.client r.item ≡ true) b.pending (record { item = i; epoch = n }) inv.retired may));
+    }
