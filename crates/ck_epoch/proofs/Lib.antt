@@ -11,3 +11,4 @@ pub mod Stepping
 mod Sections
 mod ClientSteps
 mod Retiring
+mod Polling

@@ -17,7 +17,7 @@ use Rattle.ck_epoch.specs.Ends.{Writer, IsWriting, IsWriter}
 use Rattle.ck_epoch.specs.Calls.{MayFollow}
 use Rattle.ck_epoch.proofs.Stepping.{Steps, may_step, state_after_step, writer_loads}
 
-lt_first : (R : ℕ) → nat_lt 0 (base R) ≡ true
+pub lt_first : (R : ℕ) → nat_lt 0 (base R) ≡ true
 lt_first R = let b : 0 < base R = omega arith in grind (arith, nat_tests)
 
 -- the token after the load that hands the item over and finds the global epoch

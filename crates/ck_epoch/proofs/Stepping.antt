@@ -10,7 +10,7 @@ use Rattle.ck_run.specs.Machine.{IsAt, follows_of}
 use Rattle.ck_run.specs.Tokens.{adding, did, number, origin, MayMake, Makes}
 use Rattle.ck_run.proofs.Law.{state-append, obeys_append}
 use Rattle.ck_run.proofs.Moments.{part_weaker, part_follows}
-use Rattle.ck_epoch.specs.State.{Origin, Token, TokenState, base, base_of, records_of, epochs, start, next, May, state, state_at}
+use Rattle.ck_epoch.specs.State.{Origin, IsOpening, Token, TokenState, Stage, MayStep, after_step, base, base_of, records_of, epochs, start, next, May, state, state_at}
 use Rattle.ck_epoch.specs.Client.{Client, IsOwn, IsOthers, Passes, IsGuarded, program}
 use Rattle.ck_epoch.specs.Ends.{IsInRun}
 use Rattle.ck_epoch.specs.Calls.{MayFollow}
@@ -23,6 +23,10 @@ module _ {C : Type 0} (client : Client C) where
 
   allowed : (t : Token C) → IsInRun client t → program client (origin t) (number t) (did t)
   allowed t p = part_follows (program client) (origin t) t.view.own p
+
+  -- how the domain began
+  pub opened : (t : Token C) → IsInRun client t → IsOpening (origin t)
+  opened t p = (allowed t p).0.0
 
   -- A step that the calls allow at the state, and the client after the steps before it
   pub may_step : (t : Token C) (e : Entry) → IsInRun client t → May (records_of (origin t)) (state t) e → (0 < number t → IsGuarded client (origin t) (state t) e) → MayFollow client t e
@@ -46,9 +50,20 @@ module _ {C : Type 0} (client : Client C) where
       may_step t e p may (λ other at found is. absurd (let a = ap word_of is in omega arith))
       (passes (base_of o) o (number t) (did t) e (allowed t p).3 (inl low, λ at log z. absurd cc))
 
+  -- the same at a known stage
+  pub may_at : Passes client → (t : Token C) (opens : List ℕ) (s : Step) (g : Stage) → IsInRun client t → word_of s < base_of (origin t) → (state t).stage ≡ g
+      → MayStep (records_of (origin t)) (state t) opens [] g s → MayMake (program client) t (record { opens = opens; item = []; step = s })
+  may_at passes t opens s g p low is may = may_epochs passes t opens s p low (subst (λ (h : Stage). MayStep (records_of (origin t)) (state t) opens [] h s) (sym is) may)
+
   -- the state goes on
   pub state_after_step : (t u : Token C) (e : Entry) → Steps t e u → state u ≡ next (records_of (origin t)) (state t) e
   state_after_step t u e made = ap state made.0 ∙ state-append (epochs.next (origin t)) (epochs.start (origin t) (number t)) (did t) (e ∷ [])
+
+  -- from a known stage
+  pub state_at_step : (t u : Token C) (e : Entry) (g : Stage) → Steps t e u → (state t).stage ≡ g
+      → state u ≡ record (after_step (records_of (origin t)) (state t) e.opens e.item g e.step) { steps = (state t).steps + 1 }
+  state_at_step t u e g made is = state_after_step t u e made
+      ∙ ap (λ (h : Stage). record (after_step (records_of (origin t)) (state t) e.opens e.item h e.step) { steps = (state t).steps + 1 }) is
 
 module _ {C : Type 0} (client : Client C) where
   weaker : (origin : Origin C) (n : ℕ) (es : List Entry) → program client origin n es → follows_of epochs origin n es

@@ -33,6 +33,17 @@ AreInactive ls = All (λ (l : Looked). l.active ≡ 0) ls
 abbrev pub AreCurrent : ℕ → List Looked → Type 0
 AreCurrent e ls = All (λ (l : Looked). l.active ≢ 0 → l.epoch ≡ e) ls
 
+-- Of these records `rec` is the first that was active, and each that was active had the epoch e
+pub record FirstActive (e rec : ℕ) (looked : List Looked) : Type 0 where
+  pub before : List Looked
+  pub active : ℕ
+  pub after : List Looked
+  pub are : looked ≡ before ++ record { active = active; epoch = e } ∷ after
+  pub at : length before ≡ rec
+  pub inactive : AreInactive before
+  pub is_active : active ≢ 0
+  pub current : AreCurrent e after
+
 -- what a poll that loaded the global epoch e dispatches of the pending items, in this order
 abbrev pub gone : ℕ → Poll → List Retired → List Retired
 gone e (Clear n) pending = on ((e - 2) % 4) pending ++ by_list (off ((e - 2) % 4) pending)
@@ -76,15 +87,10 @@ module _ {C : Type 0} where
 
   -- It found some record active, of which `rec` is the first, and each such had the epoch e, from which the global one rose
   pub record Moves (records e rec : ℕ) (t u : Token C) : Type 0 where
-    pub before : List Looked
-    pub active : ℕ
-    pub after : List Looked
-    pub all : length before + 1 + length after ≡ records
-    pub at : length before ≡ rec
-    pub inactive : AreInactive before
-    pub is_active : active ≢ 0
-    pub current : AreCurrent e after
-    pub steps : u ≡ adding t (call poll [] ((Load 0 e ∷ scan_steps 0 (before ++ record { active = active; epoch = e } ∷ after)) ++ Exchange 0 e (e + 1) e ∷ []))
+    pub looked : List Looked
+    pub all : length looked ≡ records
+    pub found : FirstActive e rec looked
+    pub steps : u ≡ adding t (call poll [] (Load 0 e ∷ scan_steps 0 looked ++ Exchange 0 e (e + 1) e ∷ []))
 
   -- It found `rec` active with another epoch, and each active record before it with e
   pub record IsBlocked (e rec epoch : ℕ) (t u : Token C) : Type 0 where

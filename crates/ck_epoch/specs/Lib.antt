@@ -4,5 +4,6 @@ pub mod Client
 pub mod Within
 pub mod Ends
 pub mod Calls
+pub mod Scan
 pub mod Epochs
 pub mod Held

@@ -1,5 +1,5 @@
 //! The domain, which threads share.
-ghost use Rattle.std.specs.Prelude.{◌≡◌};
+ghost use Rattle.std.specs.Prelude.{◌≡◌, ◌≤◌, ◌^◌};
 
 use crate::about::About;
 use crate::client::Client;
@@ -40,7 +40,8 @@ impl<C: Client> Model for Domain<C> {
 impl<C: Client> Domain<C> {
     /// The client that the domain was made with.
     pub fn client(&self) -> &C
-        ensures { result.now ≡ self.now.origin.config.client }
+        ensures same { result.now ≡ self.now.origin.config.client }
+        ensures small { C.meaning.size self.now.origin.config.client ≤ 2 ^ 33 }
     {
         &self.about.client
     }

@@ -1,13 +1,15 @@
 //! What the writer does.
-ghost use Rattle.std.specs.Prelude.{◌≡◌, ℕ, ◌+◌, ◌<◌, ◌⊎◌, ◌^◌, true, [], ◌∷◌, ◌++◌, length};
+ghost use Rattle.std.specs.Prelude.{◌≡◌, ℕ, ◌+◌, ◌<◌, ◌≤◌, ◌⊎◌, ◌^◌, true, [], ◌∷◌, ◌++◌, length, None, MatchResult};
 ghost use Rattle.std.specs.Option.{option_to_list};
 ghost use Rattle.ck_run.specs.declared.account.Step.TheVariants.{Load, Store};
 ghost use Rattle.ck_run.specs.Run.{entry, handing};
 ghost use Rattle.ck_run.specs.Tokens.{table, number, adding, MayMake, Makes};
-ghost use Rattle.ck_epoch.specs.State.{state, queue, base_of, records_of, retire};
+ghost use Rattle.ck_epoch.specs.declared.answers.Scan.TheVariants.{Behind};
+ghost use Rattle.ck_epoch.specs.State.{Token as TokenOf, state, free, queue, base_of, records_of, retire};
 ghost use Rattle.ck_epoch.specs.Lists.{homes, Answers};
 ghost use Rattle.ck_epoch.specs.Client.{program};
 ghost use Rattle.ck_epoch.specs.Ends.{IsInRun, IsWriting};
+ghost use Rattle.ck_epoch.specs.Scan.{IsScanning, Did};
 ghost use Rattle.ck_epoch.specs.Calls.{MayFollow, Polls, gone, kept, count_of, epoch_after};
 
 use crate::about::About;
@@ -87,24 +89,67 @@ impl<C: Client> Domain<C> {
         writer.backlog.next_back()
     }
 
-    // Goes through the records in order, up to one that is active with another epoch.
-    fn scan(&self, token: &mut Token<About<C>>, epoch: u64) -> Scan {
+    // The first step of a poll.
+    fn start_poll(&self, token: &mut Token<About<C>>) -> u64
+        requires table { table token.old ≡ self.now }
+        requires writer { IsWriting C.meaning token.old × ((state token.old).stage ≡ free) }
+        requires calls { (state token.old).calls < 2 ^ 40 }
+        ensures bounds { (4 ≤ result) × (result < 2 ^ 42) }
+        ensures scanning { IsScanning C.meaning token.old token.new result 0 None }
+    {
+        self.words.load::<Brand>(token, GLOBAL)
+    }
+
+    // Looks at one record. Ok passes on the first record that was active, and Err has another epoch, with which this one is active.
+    fn look(
+        &self,
+        token: &mut Token<About<C>>,
+        epoch: u64,
+        rec: u64,
+        first: Option<u64>,
+    ) -> Result<Option<u64>, u64>
+        requires table { table token.old ≡ self.now }
+        requires rec { rec < records_of self.now.origin }
+        requires scanning { (t : TokenOf C) × IsScanning C.meaning t token.old epoch rec first }
+        ensures table { table token.new ≡ table token.old }
+        ensures outcome { (t : TokenOf C) → IsScanning C.meaning t token.old epoch rec first → MatchResult result
+            (λ busy. IsScanning C.meaning t token.new epoch (rec + 1) busy)
+            (λ found. Did C.meaning t token.new epoch (Behind rec found)) }
+    {
+        let active = self.words.load::<Continues>(token, active_word(rec));
+        if active == 0 {
+            return Ok(first);
+        }
+        let found = self.words.load::<Continues>(token, epoch_word(rec));
+        if found == epoch {
+            return Ok(Some(first.unwrap_or(rec)));
+        }
+        Err(found)
+    }
+
+    // Goes through the records in order, up to one that is active with another epoch. Where there is none, but an active one, the global
+    // epoch rises.
+    fn scan(&self, token: &mut Token<About<C>>, epoch: u64) -> Scan
+        requires table { table token.old ≡ self.now }
+        requires bound { epoch < 2 ^ 42 }
+        requires scanning { (t : TokenOf C) × IsScanning C.meaning t token.old epoch 0 None }
+        ensures table { table token.new ≡ table token.old }
+        ensures outcome { (t : TokenOf C) → IsScanning C.meaning t token.old epoch 0 None → Did C.meaning t token.new epoch result }
+    {
         let mut first = None;
         for rec in 0..self.about.records {
-            let active = self.words.load::<Continues>(token, active_word(rec));
-            if active != 0 {
-                let found = self.words.load::<Continues>(token, epoch_word(rec));
-                if found != epoch {
-                    return Scan::Behind { rec, epoch: found };
-                }
-                if first.is_none() {
-                    first = Some(rec);
-                }
+            match self.look(token, epoch, rec, first) {
+                Ok(busy) => first = busy,
+                Err(found) => return Scan::Behind { rec, epoch: found },
             }
         }
         match first {
             None => Scan::Clear,
-            Some(rec) => Scan::Current { rec },
+            Some(rec) => {
+                self.words
+                    .exchange::<Continues>(token, GLOBAL, epoch, epoch + 1);
+                Scan::Current { rec }
+            }
         }
     }
 
@@ -124,20 +169,17 @@ impl<C: Client> Domain<C> {
         ensures part { IsInRun C.meaning writer.new.token }
     {
         let client = &self.about.client;
-        let epoch = self.words.load::<Brand>(&mut writer.token, GLOBAL);
+        let epoch = self.start_poll(&mut writer.token);
         let before = writer
             .backlog
             .dispatch_list(client, (epoch - 2) % 4, &writer.handler);
-        let scan = self.scan(&mut writer.token, epoch);
         writer.calls += 1;
-        match scan {
+        match self.scan(&mut writer.token, epoch) {
             Scan::Clear => {
                 let rest = writer.backlog.dispatch_all(client, &writer.handler);
                 Poll::Clear { n: before + rest }
             }
             Scan::Current { rec } => {
-                self.words
-                    .exchange::<Continues>(&mut writer.token, GLOBAL, epoch, epoch + 1);
                 let rest = writer
                     .backlog
                     .dispatch_list(client, (epoch - 1) % 4, &writer.handler);

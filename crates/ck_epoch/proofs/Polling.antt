@@ -1,0 +1,355 @@
+-- The steps of a poll.
+use Rattle.std.proofs.Common.{◌≡◌, ◌≢◌, ℕ, ◌+◌, ◌-◌, ◌*◌, ◌%◌, ◌<◌, ◌≤◌, ◌^◌, inl, inr, Bool, true, false, ◌&&◌, cond, ◌==◌, nat_lt, eq-eqb, ne_eqb, Option, Some, None, List, [], ◌∷◌, ◌++◌, map, length, All, length-append, refl, sym, ap, ◌∙◌, subst, arith}
+use Rattle.std.specs.Option.{unwrap_or}
+use Rattle.std.proofs.lemmas.List.{append_assoc, map-append, append-nil}
+use Rattle.std.proofs.lemmas.List.Elements.{All-push, All-nil, All-append, All-cons}
+use Rattle.ck_run.specs.declared.account.Step.{Step}
+use Rattle.ck_run.specs.declared.account.Step.TheVariants.{Load, Exchange}
+use Rattle.ck_run.specs.declared.account.Entry.{Entry}
+use Rattle.ck_run.specs.Run.{entry, further, call}
+use Rattle.ck_run.specs.Tokens.{Table, table, adding, number, origin, MayMake}
+use Rattle.ck_run.proofs.Moments.{origin_stays, number_stays, adds_one}
+use Rattle.ck_epoch.specs.declared.answers.Scan.TheVariants.{Clear, Current, Behind}
+use Rattle.ck_epoch.specs.declared.about.About.{About}
+use Rattle.ck_epoch.specs.State.{Origin, Token, TokenState, Stage, Task, polling, free, scanning, comparing, base, base_of, records_of, active_word, epoch_word, Retirement, off_list, dispatch, dispatch_all, first_busy, is_clear, poll, after_load, state, epochs}
+use Rattle.ck_epoch.specs.Client.{Client, Passes, program}
+use Rattle.ck_epoch.specs.Ends.{IsInRun, IsWriting}
+use Rattle.ck_epoch.specs.Calls.{Looked, look_steps, scan_steps, AreInactive, AreCurrent, FirstActive, FindsNone, Moves, IsBlocked}
+use Rattle.ck_epoch.specs.Scan.{IsFound, is_done, stage_at, pending_at, IsScanning, IsDone, Did}
+use Rattle.ck_epoch.proofs.Stepping.{Steps, may_at, state_at_step, writer_holds, writer_loads, writer_finds, opened}
+use Rattle.ck_epoch.proofs.Retiring.{lt_first}
+
+scan_more : (rec : ℕ) (ls : List Looked) (l : Looked) → scan_steps rec (ls ++ l ∷ []) ≡ scan_steps rec ls ++ look_steps (rec + length ls) l
+scan_more rec [] l = append-nil (look_steps rec l) ∙ ap (λ (k : ℕ). look_steps k l) (omega arith)
+scan_more rec (x ∷ ls) l = ap (λ (ss : List Step). look_steps rec x ++ ss) (scan_more (rec + 1) ls l ∙ ap (λ (k : ℕ). scan_steps (rec + 1) ls ++ look_steps k l) (omega arith))
+    ∙ sym (append_assoc (look_steps rec x) (scan_steps (rec + 1) ls) (look_steps (rec + length (x ∷ ls)) l))
+
+-- a step more of the call
+call_more : (name : ℕ) (arguments : List ℕ) (s : Step) (ss ts : List Step) → call name arguments (s ∷ ss) ++ map further ts ≡ call name arguments (s ∷ ss ++ ts)
+call_more name arguments s ss ts = ap (λ (es : List Entry). entry (name ∷ arguments) s ∷ es) (sym (map-append further ss ts))
+
+-- what was found of the records, with one more of them
+found_inactive : (e : ℕ) (ls : List Looked) (busy : Option ℕ) (l : Looked) → l.active ≡ 0 → IsFound e ls busy → IsFound e (ls ++ l ∷ []) busy
+found_inactive e ls None l none f = All-push (λ (x : Looked). x.active ≡ 0) ls l f none
+found_inactive e ls (Some r) l none f = record {
+  before = f.before;
+  active = f.active;
+  after = f.after ++ l ∷ [];
+  are = ap (λ (xs : List Looked). xs ++ l ∷ []) f.are ∙ append_assoc f.before (record { active = f.active; epoch = e } ∷ f.after) (l ∷ []);
+  at = f.at;
+  inactive = f.inactive;
+  is_active = f.is_active;
+  current = All-push (λ (x : Looked). x.active ≢ 0 → x.epoch ≡ e) f.after l f.current (λ active. absurd (active none));
+}
+
+found_current : (e n : ℕ) (ls : List Looked) (busy : Option ℕ) → n ≢ 0 → IsFound e ls busy → IsFound e (ls ++ record { active = n; epoch = e } ∷ []) (first_busy busy (length ls))
+found_current e n ls None active f = record {
+  before = ls;
+  active = n;
+  after = [];
+  are = refl;
+  at = refl;
+  inactive = f;
+  is_active = active;
+  current = All-nil (λ (x : Looked). x.active ≢ 0 → x.epoch ≡ e);
+}
+found_current e n ls (Some r) active f = record {
+  before = f.before;
+  active = f.active;
+  after = f.after ++ record { active = n; epoch = e } ∷ [];
+  are = ap (λ (xs : List Looked). xs ++ record { active = n; epoch = e } ∷ []) f.are ∙ append_assoc f.before (record { active = f.active; epoch = e } ∷ f.after) (record { active = n; epoch = e } ∷ []);
+  at = f.at;
+  inactive = f.inactive;
+  is_active = f.is_active;
+  current = All-push (λ (x : Looked). x.active ≢ 0 → x.epoch ≡ e) f.after (record { active = n; epoch = e }) f.current (λ _. refl);
+}
+
+inactive_current : (e : ℕ) (ls : List Looked) → AreInactive ls → AreCurrent e ls
+inactive_current e ls h k d l active = absurd (active (h k d l))
+
+are_current : (e : ℕ) (ls : List Looked) (busy : Option ℕ) → IsFound e ls busy → AreCurrent e ls
+are_current e ls None f = inactive_current e ls f
+are_current e ls (Some r) f = subst (AreCurrent e) (sym f.are)
+    (All-append (λ (x : Looked). x.active ≢ 0 → x.epoch ≡ e) f.before (record { active = f.active; epoch = e } ∷ f.after) (inactive_current e f.before f.inactive)
+    (All-cons (λ (x : Looked). x.active ≢ 0 → x.epoch ≡ e) (record { active = f.active; epoch = e }) f.after (λ _. refl) f.current))
+
+-- the fields of a state that is one of two
+module _ (s : TokenState) (g : Stage) where
+  abbrev either : Bool → TokenState
+  either b = cond b (record (dispatch_all s) { stage = free }) (record s { stage = g })
+
+  either_stage : (b : Bool) → (either b).stage ≡ cond b free g
+  either_stage true = refl
+  either_stage false = refl
+
+  either_pending : (b : Bool) → (either b).pending ≡ cond b [] s.pending
+  either_pending true = refl
+  either_pending false = refl
+
+  either_calls : (b : Bool) → (either b).calls ≡ s.calls
+  either_calls true = refl
+  either_calls false = refl
+
+  either_epoch : (b : Bool) → (either b).epoch ≡ s.epoch
+  either_epoch true = refl
+  either_epoch false = refl
+
+module _ {C : Type 0} (client : Client C) (passes : Passes client) where
+  -- the first step
+  module _ (t : Token C) (writing : IsWriting client t) (is_free : (state t).stage ≡ free) (few : (state t).calls < 2 ^ 40) where
+    abbrev starts : ℕ → Entry
+    starts n = entry (poll ∷ []) (Load 0 n)
+
+    pub may_start : (n : ℕ) → MayMake (program client) t (starts n)
+    may_start n = may_at client passes t (poll ∷ []) (Load 0 n) free writing.part (omega arith) is_free (inl (refl, few, inr (inl (refl, refl))))
+
+    module _ (u : Token C) (n : ℕ) (made : Steps client t (starts n) u) where
+      abbrev R : ℕ
+      R = records_of (origin t)
+
+      state_is : state u ≡ record (dispatch (n - 2) (state t)) { stage = scanning polling n 0 None; calls = (state t).calls + 1; steps = (state t).steps + 1 }
+      state_is = state_at_step client t u (starts n) free made is_free
+          ∙ ap (λ (b : Bool). record (cond b (record (dispatch (n - 2) (state t)) { stage = scanning polling n 0 None; calls = (state t).calls + 1 }) (state t)) { steps = (state t).steps + 1 }) (lt_first R)
+
+      found_epoch : n ≡ (state t).epoch
+      found_epoch = writer_loads client t u (starts n) n writing.part writing.first made refl
+
+      pub start_bounds : (4 ≤ n) × (n < 2 ^ 42)
+      start_bounds = let h = writer_holds client t writing.part writing.first in let w = h.1 in
+          let e : n ≡ h.0 = found_epoch ∙ w.epoch in
+          let late = w.late in let bound = w.bounded in let k = few in (omega arith, omega arith)
+
+      not_done : is_done R 0 None ≡ false
+      not_done = ap (λ (b : Bool). b && true) (ne_eqb 0 R (λ z. let b = (opened client t writing.part).some_records in omega arith))
+
+      pub start : IsScanning client t u n 0 None
+      start = record {
+        part = made.1;
+        first = number_stays (program client) t u (starts n) made ∙ writing.first;
+        looked = [];
+        count = refl;
+        found = All-nil (λ (x : Looked). x.active ≡ 0);
+        steps = made.0;
+        stage = ap (λ (s : TokenState). s.stage) state_is ∙ sym (ap (λ (b : Bool). cond b free (scanning polling n 0 None)) not_done);
+        calls = ap (λ (s : TokenState). s.calls) state_is;
+        epoch = (sym found_epoch, ap (λ (s : TokenState). s.epoch) state_is ∙ sym found_epoch);
+        pending = ap (λ (s : TokenState). s.pending) state_is ∙ sym (ap (λ (b : Bool). cond b [] (off_list ((n - 2) % 4) (state t).pending)) not_done);
+      }
+
+  -- one record
+  module _ (t u : Token C) (e rec : ℕ) (busy : Option ℕ) (at : IsScanning client t u e rec busy) (low : rec < records_of (origin t)) where
+    abbrev S : ℕ
+    S = records_of (origin t)
+
+    abbrev items : List Retirement
+    items = off_list ((e - 2) % 4) (state t).pending
+
+    same : origin u ≡ origin t
+    same = ap origin at.steps
+
+    same_records : records_of (origin u) ≡ S
+    same_records = ap records_of same
+
+    going : is_done S rec busy ≡ false
+    going = ap (λ (b : Bool). b && is_clear polling busy) (ne_eqb rec S (λ z. let l = low in omega arith))
+
+    at_record : (state u).stage ≡ scanning polling e rec busy
+    at_record = at.stage ∙ ap (λ (b : Bool). cond b free (scanning polling e rec busy)) going
+
+    still : (state u).pending ≡ items
+    still = at.pending ∙ ap (λ (b : Bool). cond b [] items) going
+
+    abbrev sees : ℕ → Entry
+    sees n = further (Load (active_word rec) n)
+
+    pub may_see : (w n : ℕ) → w ≡ active_word rec → MayMake (program client) u (further (Load w n))
+    may_see w n is = let z = same_records in let l = low in
+        may_at client passes u [] (Load w n) (scanning polling e rec busy) at.part (omega arith) at_record (is, subst (λ (k : ℕ). rec < k) (sym same_records) low, (refl, refl))
+
+    -- after one record more
+    did_more : (v : Token C) (l : Looked) (ts : List Step) → v ≡ adding t (call poll [] (Load 0 e ∷ scan_steps 0 at.looked) ++ map further ts) → ts ≡ look_steps rec l
+        → v ≡ adding t (call poll [] (Load 0 e ∷ scan_steps 0 (at.looked ++ l ∷ [])))
+    did_more v l ts h is = h ∙ ap (adding t)
+        (call_more poll [] (Load 0 e) (scan_steps 0 at.looked) ts
+        ∙ ap (λ (ss : List Step). call poll [] (Load 0 e ∷ ss))
+          (ap (λ (k : List Step). scan_steps 0 at.looked ++ k) (is ∙ ap (λ (k : ℕ). look_steps k l) (let c = at.count in omega arith)) ∙ sym (scan_more 0 at.looked l)))
+
+    one_more : (l : Looked) → length (at.looked ++ l ∷ []) ≡ rec + 1
+    one_more l = length-append at.looked (l ∷ []) ∙ ap (λ (k : ℕ). k + 1) at.count
+
+    module _ (v : Token C) (w n : ℕ) (w_is : w ≡ active_word rec) (made : Steps client u (further (Load w n)) v) where
+      seen_state : (b : Bool) → (n == 0) ≡ b
+          → state v ≡ record (cond b (either (state u) (scanning polling e (rec + 1) busy) (is_done S (rec + 1) busy)) (record (state u) { stage = comparing polling e rec busy })) { steps = (state u).steps + 1 }
+      seen_state b test = state_at_step client u v (further (Load w n)) (scanning polling e rec busy) made at_record
+          ∙ ap (λ (x : ℕ × Bool). record (cond x.1 (either (state u) (scanning polling e (rec + 1) busy) (is_done x.0 (rec + 1) busy)) (record (state u) { stage = comparing polling e rec busy })) { steps = (state u).steps + 1 })
+            (λ i. (same_records i, test i))
+
+      seen_number : number v ≡ 0
+      seen_number = number_stays (program client) u v (further (Load w n)) made ∙ at.first
+
+      seen : v ≡ adding t (call poll [] (Load 0 e ∷ scan_steps 0 at.looked) ++ further (Load (active_word rec) n) ∷ [])
+      seen = adds_one (program client) t u v (call poll [] (Load 0 e ∷ scan_steps 0 at.looked)) (further (Load w n)) at.steps made
+          ∙ ap (λ (k : ℕ). adding t (call poll [] (Load 0 e ∷ scan_steps 0 at.looked) ++ further (Load k n) ∷ [])) w_is
+
+      pub inactive : n ≡ 0 → IsScanning client t v e (rec + 1) busy
+      inactive none =
+          let s = seen_state true (eq-eqb n 0 none) in
+          let g = scanning polling e (rec + 1) busy in
+          let b = is_done S (rec + 1) busy in
+          let l : Looked = record { active = n; epoch = 0 } in
+          record {
+            part = made.1;
+            first = seen_number;
+            looked = at.looked ++ l ∷ [];
+            count = one_more l;
+            found = found_inactive e at.looked busy l none at.found;
+            steps = did_more v l (Load (active_word rec) n ∷ []) seen (sym (ap (λ (c : Bool). Load (active_word rec) n ∷ cond c [] (Load (epoch_word rec) 0 ∷ [])) (eq-eqb n 0 none)));
+            stage = ap (λ (x : TokenState). x.stage) s ∙ either_stage (state u) g b;
+            calls = ap (λ (x : TokenState). x.calls) s ∙ (either_calls (state u) g b ∙ at.calls);
+            epoch = (at.epoch.0, ap (λ (x : TokenState). x.epoch) s ∙ (either_epoch (state u) g b ∙ at.epoch.1));
+            pending = ap (λ (x : TokenState). x.pending) s ∙ (either_pending (state u) g b ∙ ap (λ (ps : List Retirement). cond b [] ps) still);
+          }
+
+      -- it is active
+      module _ (active : n ≢ 0) where
+        comparing_state : state v ≡ record (state u) { stage = comparing polling e rec busy; steps = (state u).steps + 1 }
+        comparing_state = seen_state false (ne_eqb n 0 active)
+
+        comparing_stage : (state v).stage ≡ comparing polling e rec busy
+        comparing_stage = ap (λ (x : TokenState). x.stage) comparing_state
+
+        comparing_records : records_of (origin v) ≡ S
+        comparing_records = ap records_of (origin_stays (program client) u v (further (Load w n)) made) ∙ same_records
+
+        pub may_compare : (x m : ℕ) → x ≡ epoch_word rec → MayMake (program client) v (further (Load x m))
+        may_compare x m is = let z = comparing_records in let l = low in
+            may_at client passes v [] (Load x m) (comparing polling e rec busy) made.1 (omega arith) comparing_stage (is, subst (λ (k : ℕ). rec < k) (sym comparing_records) low, (refl, refl))
+
+        module _ (z : Token C) (x m : ℕ) (x_is : x ≡ epoch_word rec) (compared : Steps client v (further (Load x m)) z) where
+          abbrev busier : Option ℕ
+          busier = first_busy busy rec
+
+          compared_state : (b : Bool) → (m == e) ≡ b
+              → state z ≡ record (cond b (either (state v) (scanning polling e (rec + 1) busier) (is_done S (rec + 1) busier)) (record (state v) { stage = free })) { steps = (state v).steps + 1 }
+          compared_state b test = state_at_step client v z (further (Load x m)) (comparing polling e rec busy) compared comparing_stage
+              ∙ ap (λ (y : ℕ × Bool). record (cond y.1 (either (state v) (scanning polling e (rec + 1) busier) (is_done y.0 (rec + 1) busier)) (record (state v) { stage = free })) { steps = (state v).steps + 1 })
+                (λ i. (comparing_records i, test i))
+
+          compared_number : number z ≡ 0
+          compared_number = number_stays (program client) v z (further (Load x m)) compared ∙ seen_number
+
+          abbrev l : Looked
+          l = record { active = n; epoch = m }
+
+          compared_steps : z ≡ adding t (call poll [] (Load 0 e ∷ scan_steps 0 (at.looked ++ l ∷ [])))
+          compared_steps = did_more z l (Load (active_word rec) n ∷ Load (epoch_word rec) m ∷ [])
+              (adds_one (program client) t v z (call poll [] (Load 0 e ∷ scan_steps 0 at.looked) ++ further (Load (active_word rec) n) ∷ []) (further (Load x m)) seen compared
+              ∙ ap (adding t) (append_assoc (call poll [] (Load 0 e ∷ scan_steps 0 at.looked)) (further (Load (active_word rec) n) ∷ []) (further (Load x m) ∷ [])
+                ∙ ap (λ (k : ℕ). call poll [] (Load 0 e ∷ scan_steps 0 at.looked) ++ further (Load (active_word rec) n) ∷ further (Load k m) ∷ []) x_is))
+              (sym (ap (λ (c : Bool). Load (active_word rec) n ∷ cond c [] (Load (epoch_word rec) m ∷ [])) (ne_eqb n 0 active)))
+
+          pub current : m ≡ e → IsScanning client t z e (rec + 1) busier
+          current is =
+              let s = compared_state true (eq-eqb m e is) in
+              let g = scanning polling e (rec + 1) busier in
+              let b = is_done S (rec + 1) busier in
+              let c = comparing_state in
+              record {
+                part = compared.1;
+                first = compared_number;
+                looked = at.looked ++ l ∷ [];
+                count = one_more l;
+                found = subst (λ (k : ℕ). IsFound e (at.looked ++ record { active = n; epoch = k } ∷ []) busier) (sym is)
+                    (subst (λ (k : ℕ). IsFound e (at.looked ++ record { active = n; epoch = e } ∷ []) (first_busy busy k)) at.count (found_current e n at.looked busy active at.found));
+                steps = compared_steps;
+                stage = ap (λ (y : TokenState). y.stage) s ∙ either_stage (state v) g b;
+                calls = ap (λ (y : TokenState). y.calls) s ∙ (either_calls (state v) g b ∙ (ap (λ (y : TokenState). y.calls) c ∙ at.calls));
+                epoch = (at.epoch.0, ap (λ (y : TokenState). y.epoch) s ∙ (either_epoch (state v) g b ∙ (ap (λ (y : TokenState). y.epoch) c ∙ at.epoch.1)));
+                pending = ap (λ (y : TokenState). y.pending) s ∙ (either_pending (state v) g b ∙ ap (λ (ps : List Retirement). cond b [] ps) (ap (λ (y : TokenState). y.pending) c ∙ still));
+              }
+
+          pub behind : m ≢ e → Did client t z e (Behind rec m)
+          behind other =
+              let s = compared_state false (ne_eqb m e other) in
+              let c = comparing_state in (
+                record {
+                  before = at.looked;
+                  active = n;
+                  at = at.count;
+                  current = are_current e at.looked busy at.found;
+                  is_active = active;
+                  other = other;
+                  steps = compared_steps;
+                },
+                record {
+                  part = compared.1;
+                  first = compared_number;
+                  stage = ap (λ (y : TokenState). y.stage) s;
+                  calls = ap (λ (y : TokenState). y.calls) s ∙ (ap (λ (y : TokenState). y.calls) c ∙ at.calls);
+                  epoch_is = ap (λ (y : TokenState). y.epoch) s ∙ (ap (λ (y : TokenState). y.epoch) c ∙ at.epoch.1);
+                  pending_is = ap (λ (y : TokenState). y.pending) s ∙ (ap (λ (y : TokenState). y.pending) c ∙ still);
+                },
+              )
+
+  -- all records were passed, and none was active
+  pub clear : (t u : Token C) (e : ℕ) → IsScanning client t u e (records_of (origin t)) None → Did client t u e Clear
+  clear t u e at =
+      let done : is_done (records_of (origin t)) (records_of (origin t)) None ≡ true = ap (λ (b : Bool). b && true) (eq-eqb (records_of (origin t)) (records_of (origin t)) refl) in (
+        record { looked = at.looked; all = at.count; inactive = at.found; steps = at.steps },
+        record {
+          part = at.part;
+          first = at.first;
+          stage = at.stage ∙ ap (λ (b : Bool). cond b free (scanning polling e (records_of (origin t)) None)) done;
+          calls = at.calls;
+          epoch_is = at.epoch.1;
+          pending_is = at.pending ∙ ap (λ (b : Bool). cond b [] (off_list ((e - 2) % 4) (state t).pending)) done;
+        },
+      )
+
+  -- some were, and had the epoch: the exchange
+  module _ (t u : Token C) (e rec : ℕ) (at : IsScanning client t u e (records_of (origin t)) (Some rec)) where
+    abbrev N : ℕ
+    N = records_of (origin t)
+
+    waits : is_done N N (Some rec) ≡ false
+    waits = and_false (N == N)
+      where
+        and_false : (b : Bool) → b && false ≡ false
+        and_false true = refl
+        and_false false = refl
+
+    at_end : (state u).stage ≡ scanning polling e N (Some rec)
+    at_end = at.stage ∙ ap (λ (b : Bool). cond b free (scanning polling e N (Some rec))) waits
+
+    pub may_raise : (n : ℕ) → MayMake (program client) u (further (Exchange 0 e (e + 1) n))
+    may_raise n = may_at client passes u [] (Exchange 0 e (e + 1) n) (scanning polling e N (Some rec)) at.part (omega arith) at_end (refl, sym (ap records_of (ap origin at.steps)), refl, refl, (refl, refl))
+
+    pub raised : (v : Token C) (n : ℕ) → Steps client u (further (Exchange 0 e (e + 1) n)) v → Did client t v e (Current rec)
+    raised v n made =
+        let s = state_at_step client u v (further (Exchange 0 e (e + 1) n)) (scanning polling e N (Some rec)) made at_end in
+        let found : n ≡ e = writer_finds client u v (further (Exchange 0 e (e + 1) n)) e (e + 1) n at.part at.first made refl ∙ at.epoch.1 in (
+          record {
+            looked = at.looked;
+            all = at.count;
+            found = at.found;
+            steps = adds_one (program client) t u v (call poll [] (Load 0 e ∷ scan_steps 0 at.looked)) (further (Exchange 0 e (e + 1) n)) at.steps made
+                ∙ ap (adding t) (call_more poll [] (Load 0 e) (scan_steps 0 at.looked) (Exchange 0 e (e + 1) n ∷ []) ∙ ap (λ (k : ℕ). call poll [] (Load 0 e ∷ scan_steps 0 at.looked ++ Exchange 0 e (e + 1) k ∷ [])) found);
+          },
+          record {
+            part = made.1;
+            first = number_stays (program client) u v (further (Exchange 0 e (e + 1) n)) made ∙ at.first;
+            stage = ap (λ (y : TokenState). y.stage) s;
+            calls = ap (λ (y : TokenState). y.calls) s ∙ at.calls;
+            epoch_is = ap (λ (y : TokenState). y.epoch) s;
+            pending_is = ap (λ (y : TokenState). y.pending) s ∙ ap (off_list ((e - 1) % 4)) (at.pending ∙ ap (λ (b : Bool). cond b [] (off_list ((e - 2) % 4) (state t).pending)) waits);
+          },
+        )
+
+-- a record of the domain is one of the token's
+pub low_record : {C : Type 0} (client : Client C) (t u : Token C) (e rec : ℕ) (busy : Option ℕ) (now : Table (About C)) → IsScanning client t u e rec busy → table u ≡ now → rec < records_of now.origin → rec < records_of (origin t)
+low_record client t u e rec busy now at is low = subst (λ (o : Origin _). rec < records_of o) (sym (ap (λ (x : Table (About _)). x.origin) is) ∙ ap origin at.steps) low
+
+-- the first record that was active, after one more
+pub first_is : (busy : Option ℕ) (rec : ℕ) → first_busy busy rec ≡ Some (unwrap_or busy rec)
+first_is None rec = refl
+first_is (Some r) rec = refl
