@@ -1,2 +1,4 @@
-pub mod Kept
-pub mod Tellings
+mod Kept
+mod Splits
+mod Tellings
+mod Steps

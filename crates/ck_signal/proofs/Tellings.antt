@@ -20,7 +20,7 @@ use Rattle.ck_signal.specs.Told.{applied, answered, log_in, answers_in, IsRunOf,
 use Rattle.ck_signal.proofs.Kept.{AreKept, keeps}
 
 -- an account that grew by these entries
-grown : (a : Account) (es : List Entry) → state_after grow a es ≡ record a { entries = a.entries ++ es }
+pub grown : (a : Account) (es : List Entry) → state_after grow a es ≡ record a { entries = a.entries ++ es }
 grown a [] = ap (λ (l : List Entry). record a { entries = l }) (sym (append-nil a.entries))
 grown a (e ∷ es) = grown (grow a e) es ∙ ap (λ (l : List Entry). record a { entries = l }) (append_assoc a.entries (e ∷ []) es)
 
@@ -124,7 +124,7 @@ module _ {C : Type 0} (client : Client C) (grows : LogGrows client) (rises : Ans
           (cases_le (length before) (length past))
 
   answered_law : (origin : Origin (Signals C)) (past rest : Run) (r k : ℕ) → r < readers origin → IsRunOf client origin (past ++ (0, asks (answered client origin r) r k) ∷ rest)
-      → AreBelow client origin past (past ++ (0, asks (answered client origin r) r k) ∷ rest) r k
+      → AreBelow client origin past (past ++ (0, asks (answered client origin r) r k) ∷ rest) r k (length (log_in client origin past))
   answered_law origin past rest r k low run =
       let x : ℕ × Entry = (0, asks (answered client origin r) r k) in
       let loaded = (at_step (signalling client) origin past rest 0 x.1 (as_signals origin past (x ∷ rest) run)).1 in

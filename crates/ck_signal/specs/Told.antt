@@ -1,6 +1,6 @@
 -- What the signal words tell: of every true run of a domain whose client has signals, and of each moment of it. A moment is the part of
 -- the run that is past.
-use Rattle.std.specs.Prelude.{◌≡◌, ℕ, suc, ◌+◌, ◌<◌, ◌≤◌, List, [], ◌∷◌, ◌++◌, length, slice_index, Result, Ok, Err}
+use Rattle.std.specs.Prelude.{◌≡◌, ℕ, suc, ◌+◌, ◌<◌, ◌≤◌, List, [], ◌∷◌, ◌++◌, length, slice_index}
 use Rattle.ck_run.specs.declared.account.Entry.{Entry}
 use Rattle.ck_run.specs.Run.{Run, replay, account}
 use Rattle.ck_run.specs.Rule.{IsRun}
@@ -44,10 +44,10 @@ module _ {C : Type 0} (client : Client C) where
   abbrev pub IsPlace : Origin (Signals C) → Run → ℕ → ℕ → ℕ → Type 0
   IsPlace origin run r i place = (past : Run) × (rest : Run) × (run ≡ past ++ rest) × (answers_in origin past r ≤ i) × (place ≡ length (log_in origin past))
 
-  -- By the moment `past` of the run the reader r had given its first k answers, and they have places not above the length of the log then
-  pub record AreBelow (origin : Origin (Signals C)) (past run : Run) (r k : ℕ) : Type 0 where
+  -- By the moment `past` of the run the reader r had given its first k answers, and they have places not above m
+  pub record AreBelow (origin : Origin (Signals C)) (past run : Run) (r k m : ℕ) : Type 0 where
     pub given : k ≤ answers_in origin past r
-    pub places : (i place : ℕ) → i < k → IsPlace origin run r i place → place ≤ length (log_in origin past)
+    pub places : (i place : ℕ) → i < k → IsPlace origin run r i place → place ≤ m
 
   -- The law of signals
   pub record Telling : Type 0 where
@@ -58,10 +58,25 @@ module _ {C : Type 0} (client : Client C) where
     pub told : (origin : Origin (Signals C)) (past rest : Run) → IsRunOf origin (past ++ rest) → IsTold origin past (replay origin.words past)
     -- from the moment on at which `reached` told of n updates, the log has them
     pub reached : (origin : Origin (Signals C)) (past rest : Run) (r n : ℕ) → IsRunOf origin (past ++ rest) → HasReached origin past r n → n ≤ length (log_in origin past)
-    -- where `answered` loads k, the first k answers of that reader are below
+    -- where `answered` loads k, the first k answers of that reader have places not above the length of the log by then
     pub answered : (origin : Origin (Signals C)) (past rest : Run) (r k : ℕ) → r < readers origin → let run = past ++ (0, asks (answered origin r) r k) ∷ rest in
-        IsRunOf origin run → AreBelow origin past run r k
+        IsRunOf origin run → AreBelow origin past run r k (length (log_in origin past))
 
-  -- In every true run in which the token made this step next, P holds of the part of the run before the step, and of the run
-  abbrev pub AtStep : Token (Signals C) → Entry → (Run → Run → Type 0) → Type 0
-  AtStep t e P = (past rest : Run) → let run = past ++ (number t, e) ∷ rest in IsRunOf (origin t) run → account (number t) past ≡ did t → P past run
+  -- the log that the writer's account gives, and how many answers a pass's account gives
+  abbrev pub log : Token (Signals C) → List client.Update
+  log t = log_of client (base_of (origin t)) (origin t) (did t)
+
+  abbrev pub answers : Token (Signals C) → ℕ
+  answers t = answers_of client (base_of (origin t)) (origin t) (did t)
+
+  -- In every true run, at each moment by which the token has made these steps and no more, P holds of the run so far and of the run
+  abbrev pub SinceStep : Token (Signals C) → (Run → Run → Type 0) → Type 0
+  SinceStep t P = (past rest : Run) → IsRunOf (origin t) (past ++ rest) → account (number t) past ≡ did t → P past (past ++ rest)
+
+  -- then the log has at least n updates
+  abbrev pub HasSeen : Token (Signals C) → ℕ → Type 0
+  HasSeen t n = SinceStep t (λ past run. n ≤ length (log_in (origin t) past))
+
+  -- and then the first k answers of the reader r have places not above m
+  abbrev pub HasBeenTold : Token (Signals C) → ℕ → ℕ → ℕ → Type 0
+  HasBeenTold t r k m = SinceStep t (λ past run. AreBelow (origin t) past run r k m)

@@ -2,8 +2,10 @@
 //! given: a client of `ck_epoch` around another client.
 #![tactic(auto)]
 
+mod calls;
 mod law;
 mod signals;
 
+pub use calls::{answered, mark, note, reached};
 pub use law::holds_after_every_run;
 pub use signals::Signals;

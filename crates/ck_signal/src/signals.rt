@@ -1,10 +1,8 @@
 //! A client with signal words.
-ghost use Rattle.std.specs.Prelude.{◌≡◌, ◌≤◌, ◌^◌};
+ghost use Rattle.std.specs.Prelude.{◌≡◌, ◌<◌, ◌≤◌, ◌^◌};
+ghost use Rattle.ck_signal.specs.Words.{applied_word as applied, answered_word as answered, size_with};
 
 use ck_epoch::{Client, Within};
-
-// How many words each signal word is away from the words in use before it: two cache lines.
-const STRIDE: u64 = 16;
 
 /// The client, and behind its words the word `applied`, in which the writer stores the length of its log, and a word `answered` for each
 /// record, in which its reader stores how many answers it has given.
@@ -68,4 +66,24 @@ impl<C: Client, D: Within<C>> Within<C> for Signals<D> {
     }
 
     ghost within = { within_so C.meaning D.meaning D.place D.part D.within };
+}
+
+// How many words each signal word is away from the words in use before it: two cache lines.
+const STRIDE: u64 = 16;
+
+// The word `applied`, as a word of the client.
+pub(crate) fn applied_word<C: Client>(signals: &Signals<C>) -> u64
+    requires small { size_with (C.meaning.size signals.now.client) signals.now.records ≤ 2 ^ 33 }
+    ensures { result ≡ applied (C.meaning.size signals.now.client) }
+{
+    signals.client.words() + STRIDE
+}
+
+// The word `answered` of a record.
+pub(crate) fn answered_word<C: Client>(signals: &Signals<C>, rec: u64) -> u64
+    requires small { size_with (C.meaning.size signals.now.client) signals.now.records ≤ 2 ^ 33 }
+    requires record { rec < signals.now.records }
+    ensures { result ≡ answered (C.meaning.size signals.now.client) rec }
+{
+    signals.client.words() + STRIDE * (rec + 2)
 }
