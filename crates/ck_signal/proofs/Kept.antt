@@ -1,25 +1,28 @@
--- Each step of each token of a domain with signals keeps what the signal words tell.
-use Rattle.std.proofs.Common.{◌≡◌, ◌≢◌, ℕ, zero, suc, ◌+◌, ◌*◌, ◌<◌, ◌≤◌, le_refl, ◌⊎◌, ⊎_elim, List, [], ◌∷◌, ◌++◌, length, length-append, set, length-set, get_or, get_or-set_same, get_or-set_other, refl, sym, ap, ◌∙◌, subst, arith}
+-- What the signal words tell is true at opening, and stays true at each step of each token.
+use Rattle.std.proofs.Common.{◌≡◌, ◌≢◌, ℕ, suc, ◌+◌, ◌*◌, ◌<◌, ◌≤◌, le_refl, ◌⊎◌, ⊎_elim, Bool, cond, List, [], ◌∷◌, ◌++◌, length, set, length-set, get_or, get_or-set_same, get_or-set_other, refl, sym, ap, ◌∙◌, subst, arith}
 use Rattle.std.proofs.Math.Nat.{le_trans}
-use Rattle.std.proofs.lemmas.Bool.{cases_lt}
+use Rattle.std.proofs.lemmas.Bool.{cases_lt, le-ltb}
 use mathlib.Core.Logic.{dite}
 use native.Mathlib.Decide.{ℕ_discrete}
 use Rattle.ck_run.specs.declared.account.Step.{Step}
 use Rattle.ck_run.specs.declared.account.Step.TheVariants.{Load, Store, Exchange}
 use Rattle.ck_run.specs.declared.account.Entry.{Entry}
 use Rattle.ck_run.specs.declared.account.Account.{Account}
-use Rattle.ck_run.specs.Run.{words_after, Fits}
-use Rattle.ck_run.specs.Range.{word_of, IsInside}
+use Rattle.ck_run.specs.Run.{Run, words_after, account}
+use Rattle.ck_run.specs.Range.{word_of}
 use Rattle.ck_run.specs.Rule.{unused}
-use Rattle.ck_run.specs.Machine.{moved, IsInvariant}
+use Rattle.ck_run.specs.Machine.{moved, IsInvariantAlong}
+use Rattle.ck_run.proofs.Runs.{account_here, account_else}
 use Rattle.ck_run.proofs.Law.{moved_here, moved_else}
 use Rattle.ck_epoch.specs.State.{Origin, base_of}
 use Rattle.ck_epoch.specs.Client.{Client, LogGrows, AnsweredRises, IsClientOpening}
 use Rattle.ck_signal.specs.declared.signals.Signals.{Signals}
-use Rattle.ck_signal.specs.Words.{size_with, marks, reaches, notes, asks}
-use Rattle.ck_signal.specs.Signals.{inside, readers, grow, own_size, applied_at, answered_at, log_of, answers_of, IsMark, IsReached, IsNote, IsAnswered, IsSignal, MaySignal, signals, signalling}
+use Rattle.ck_signal.specs.Words.{applied_word, answered_word, size_with}
+use Rattle.ck_signal.specs.Signals.{readers, grow, own_size, log_of, answers_of, IsMark, IsReached, IsNote, IsAnswered, IsSignal, MaySignal, signals}
+use Rattle.ck_signal.specs.Told.{applied, answered, log_in, answers_in, IsTold}
+use Rattle.ck_signal.proofs.Growing.{run_rises, longer}
 
--- what a step stores in other words
+-- a step leaves the other words
 stays : (words : List ℕ) (s : Step) (w : ℕ) → w ≢ word_of s → get_or (words_after words s) w 0 ≡ get_or words w 0
 stays words (Load at found) w other = refl
 stays words (Store at n) w other = get_or-set_other words at w n 0 other
@@ -30,109 +33,111 @@ same_length words (Load at found) = refl
 same_length words (Store at n) = length-set words at n
 same_length words (Exchange at old new found) = length-set words at _
 
--- A count of entries that doesn't fall as an account grows doesn't fall for any token, whoever makes the step
-count_rises : (f : List Entry → ℕ) → ((es : List Entry) (e : Entry) → f es ≤ f (es ++ e ∷ [])) → (at : ℕ → Account) (n m : ℕ) (e : Entry)
-    → f (at m).entries ≤ f (moved at n (grow (at n) e) m).entries
-count_rises f rises at n m e = dite (ℕ_discrete n m)
-    (λ (same : n ≡ m). subst (λ (a : Account). f (at m).entries ≤ f a.entries) (sym (moved_here at n m (grow (at n) e) same)) (subst (λ (k : ℕ). f (at m).entries ≤ f ((at k).entries ++ e ∷ [])) (sym same) (rises (at m).entries e)))
-    (λ (other : n ≢ m). subst (λ (a : Account). f (at m).entries ≤ f a.entries) (sym (moved_else at n m (grow (at n) e) other)) (le_refl (f (at m).entries)))
+-- the account of the token n in a run
+abbrev account_in : Run → ℕ → Account
+account_in run n = record { number = n; entries = account n run }
 
-number_stays : (at : ℕ → Account) (n m : ℕ) (e : Entry) → (moved at n (grow (at n) e) m).number ≡ (at m).number
-number_stays at n m e = dite (ℕ_discrete n m)
-    (λ (same : n ≡ m). ap (λ (a : Account). a.number) (moved_here at n m (grow (at n) e) same) ∙ ap (λ (k : ℕ). (at k).number) same)
-    (λ (other : n ≢ m). ap (λ (a : Account). a.number) (moved_else at n m (grow (at n) e) other))
+account_grows : (past : Run) (at : ℕ → Account) (n m : ℕ) (e : Entry) → ((k : ℕ) → at k ≡ account_in past k) → moved at n (grow (at n) e) m ≡ account_in (past ++ (n, e) ∷ []) m
+account_grows past at n m e same = dite (ℕ_discrete n m)
+    (λ (here : n ≡ m). moved_here at n m (grow (at n) e) here ∙ (ap (λ (a : Account). grow a e) (ap at here ∙ same m) ∙ ap (λ (es : List Entry). record { number = m; entries = es }) (sym (account_here past n m e here))))
+    (λ (other : n ≢ m). moved_else at n m (grow (at n) e) other ∙ (same m ∙ ap (λ (es : List Entry). record { number = m; entries = es }) (sym (account_else past n m e other))))
 
 module _ {C : Type 0} (client : Client C) (origin : Origin (Signals C)) where
-  abbrev first : ℕ
-  first = base_of origin
+  -- where the words of the client inside end, and the signal words
+  abbrev low : ℕ
+  low = base_of origin + own_size client origin
 
-  abbrev size : ℕ
-  size = own_size client origin
+  abbrev high : ℕ
+  high = base_of origin + size_with (own_size client origin) (readers origin)
 
-  abbrev updates : List Entry → ℕ
-  updates es = length (log_of client first origin es)
+  pub record AreKept (past : Run) (words : List ℕ) (at : ℕ → Account) : Type 0 where
+    pub wide : high ≤ length words
+    pub accounts : (n : ℕ) → at n ≡ account_in past n
+    pub told : IsTold client origin past words
 
-  abbrev answers : List Entry → ℕ
-  answers es = answers_of client first origin es
+  -- the signal words are 0 at opening
+  pub starts : IsClientOpening (signals client) origin → AreKept [] origin.words unused
+  starts opening = record {
+    wide = let long = opening.long in omega arith;
+    accounts = λ n. refl;
+    told = record {
+      updates = let z = zero_at (applied_word (own_size client origin)) (omega arith) (omega arith) in omega arith;
+      answers = λ r few. let z = zero_at (answered_word (own_size client origin) r) (omega arith) (omega arith) in omega arith;
+    };
+  }
+    where
+      zero_at : (i : ℕ) → own_size client origin ≤ i → i < size_with (own_size client origin) (readers origin) → get_or origin.words (base_of origin + i) 0 ≡ 0
+      zero_at i past few = opening.words i few ∙ ap (λ (b : Bool). cond b (client.first origin.config.client.client i) 0) (le-ltb i (own_size client origin) past)
 
-  -- What holds of the words and the accounts
-  pub record AreKept (words : List ℕ) (at : ℕ → Account) : Type 0 where
-    pub wide : first + size_with size (readers origin) ≤ length words
-    pub numbered : (n : ℕ) → (at n).number ≡ n
-    pub applied : get_or words (applied_at client first origin) 0 ≤ updates (at 0).entries
-    pub answered : (r : ℕ) → r < readers origin → get_or words (answered_at client first origin r) 0 ≤ answers (at (suc r)).entries
+module _ {C : Type 0} (client : Client C) (grows : LogGrows client) (rises : AnsweredRises client) (origin : Origin (Signals C))
+    (past : Run) (words : List ℕ) (at : ℕ → Account) (n : ℕ) (e : Entry) (h : AreKept client origin past words at) where
+  abbrev Keeps : List ℕ → Type 0
+  Keeps after = AreKept client origin (past ++ (n, e) ∷ []) after (moved at n (grow (at n) e))
 
-module _ {C : Type 0} (client : Client C) (grows : LogGrows client) (rises : AnsweredRises client) (origin : Origin (Signals C)) where
-  log_rises : (es : List Entry) (e : Entry) → updates client origin es ≤ updates client origin (es ++ e ∷ [])
-  log_rises es e =
-      let g = grows (base_of origin) (inside origin) es e in
-      let long = ap length g.1 ∙ length-append (log_of client (base_of origin) origin es) g.0 in
-      omega arith
+  abbrev a : Account
+  a = account_in past n
 
-  module _ (words : List ℕ) (at : ℕ → Account) (n : ℕ) (e : Entry) (h : AreKept client origin words at) where
-    abbrev after : ℕ → Account
-    after = moved at n (grow (at n) e)
+  -- no word is more than it could tell before the step
+  goes : (after : List ℕ) → length after ≡ length words → (get_or after (applied client origin) 0 ≤ length (log_in client origin past))
+      → ((r : ℕ) → r < readers origin → get_or after (answered client origin r) 0 ≤ answers_in client origin past r) → Keeps after
+  goes after long updates answers = record {
+    wide = subst (λ (k : ℕ). high client origin ≤ k) (sym long) h.wide;
+    accounts = λ m. account_grows past at n m e h.accounts;
+    told = record {
+      updates = le_trans updates (longer client grows rises origin past ((n, e) ∷ []));
+      answers = λ r few. le_trans (answers r few) (run_rises client grows rises origin past ((n, e) ∷ []) r);
+    };
+  }
 
-    -- no word is greater than what it told, or than what it tells now
-    goes : (words' : List ℕ) → length words' ≡ length words
-        → (get_or words' (applied_at client (base_of origin) origin) 0 ≤ updates client origin (at 0).entries)
-        → ((r : ℕ) → r < readers origin → get_or words' (answered_at client (base_of origin) origin r) 0 ≤ answers client origin (at (suc r)).entries)
-        → AreKept client origin words' after
-    goes words' long a b = record {
-      wide = subst (λ (k : ℕ). (base_of origin) + size_with (own_size client origin) (readers origin) ≤ k) (sym long) h.wide;
-      numbered = λ m. number_stays at n m e ∙ h.numbered m;
-      applied = le_trans a (count_rises (updates client origin) log_rises at n 0 e);
-      answered = λ r low. le_trans (b r low) (count_rises (answers client origin) (λ es x. rises (base_of origin) (inside origin) es x) at n (suc r) e);
-    }
+  rests : (after : List ℕ) → length after ≡ length words → ((w : ℕ) → low client origin ≤ w → w < high client origin → get_or after w 0 ≡ get_or words w 0) → Keeps after
+  rests after long same = goes after long
+      (subst (λ (k : ℕ). k ≤ length (log_in client origin past)) (sym (same (applied client origin) (omega arith) (omega arith))) h.told.updates)
+      (λ r few. subst (λ (k : ℕ). k ≤ answers_in client origin past r) (sym (same (answered client origin r) (omega arith) (omega arith))) (h.told.answers r few))
 
-    -- where the signal words stay as they are
-    rests : (words' : List ℕ) → length words' ≡ length words
-        → ((w : ℕ) → (base_of origin) + own_size client origin ≤ w → w < (base_of origin) + size_with (own_size client origin) (readers origin) → get_or words' w 0 ≡ get_or words w 0) → AreKept client origin words' after
-    rests words' long same = goes words' long
-        (subst (λ (k : ℕ). k ≤ updates client origin (at 0).entries) (sym (same (applied_at client (base_of origin) origin) (omega arith) (omega arith))) h.applied)
-        (λ r low. subst (λ (k : ℕ). k ≤ answers client origin (at (suc r)).entries) (sym (same (answered_at client (base_of origin) origin r) (omega arith) (omega arith))) (h.answered r low))
+  elsewhere : (IsSignal client (base_of origin) origin e → ⊥) → Keeps (words_after words e.step)
+  elsewhere else = rests (words_after words e.step) (same_length words e.step) (λ w from to. stays words e.step w (λ is. else (omega arith, omega arith)))
 
-    elsewhere : (IsSignal client (base_of origin) origin e → ⊥) → AreKept client origin (words_after words e.step) after
-    elsewhere else = rests (words_after words e.step) (same_length words e.step) (λ w low high. stays words e.step w (λ is. else (omega arith, omega arith)))
+  loads : (word found : ℕ) → e.step ≡ Load word found → Keeps (words_after words e.step)
+  loads word found is = subst (λ (s : Step). Keeps (words_after words s)) (sym is) (rests words refl (λ w from to. refl))
 
-    marked : IsMark client (base_of origin) origin (at n) e → AreKept client origin (words_after words e.step) after
-    marked m =
-        let here : n ≡ 0 = sym (h.numbered n) ∙ m.0 in
-        let word = applied_at client (base_of origin) origin in
-        let k = updates client origin (at n).entries in
-        subst (λ (x : Entry). AreKept client origin (words_after words x.step) after) (sym m.1)
-        (goes (set words word k) (length-set words word k)
-          (subst (λ (z : ℕ). z ≤ updates client origin (at 0).entries) (sym (get_or-set_same words word k 0 (let wide = h.wide in omega arith))) (subst (λ (i : ℕ). updates client origin (at i).entries ≤ updates client origin (at 0).entries) (sym here) (le_refl (updates client origin (at 0).entries))))
-          (λ r low. subst (λ (z : ℕ). z ≤ answers client origin (at (suc r)).entries) (sym (get_or-set_other words word (answered_at client (base_of origin) origin r) k 0 (omega arith))) (h.answered r low)))
+  marked : IsMark client (base_of origin) origin a e → Keeps (words_after words e.step)
+  marked m =
+      let word = applied client origin in
+      let k = length (log_of client (base_of origin) origin (account n past)) in
+      let told : k ≤ length (log_in client origin past) = subst (λ (i : ℕ). k ≤ length (log_of client (base_of origin) origin (account i past))) m.0 (le_refl k) in
+      subst (λ (x : Entry). Keeps (words_after words x.step)) (sym m.1)
+      (goes (set words word k) (length-set words word k)
+        (subst (λ (z : ℕ). z ≤ length (log_in client origin past)) (sym (get_or-set_same words word k 0 (let wide = h.wide in omega arith))) told)
+        (λ r few. subst (λ (z : ℕ). z ≤ answers_in client origin past r) (sym (get_or-set_other words word (answered client origin r) k 0 (omega arith))) (h.told.answers r few)))
 
-    noted : IsNote client (base_of origin) origin (at n) e → AreKept client origin (words_after words e.step) after
-    noted m =
-        let r : ℕ = m.0 in
-        let here : n ≡ suc r = sym (h.numbered n) ∙ m.1 in
-        let word = answered_at client (base_of origin) origin r in
-        let k = answers client origin (at n).entries in
-        subst (λ (x : Entry). AreKept client origin (words_after words x.step) after) (sym m.3)
-        (goes (set words word k) (length-set words word k)
-          (subst (λ (z : ℕ). z ≤ updates client origin (at 0).entries) (sym (get_or-set_other words word (applied_at client (base_of origin) origin) k 0 (omega arith))) h.applied)
-          (λ q low. dite (ℕ_discrete q r)
-            (λ (same : q ≡ r). subst (λ (i : ℕ). get_or (set words word k) (answered_at client (base_of origin) origin i) 0 ≤ answers client origin (at (suc i)).entries) (sym same)
-              (subst (λ (z : ℕ). z ≤ answers client origin (at (suc r)).entries) (sym (get_or-set_same words word k 0 (let wide = h.wide in let some = m.2 in omega arith)))
-                (subst (λ (i : ℕ). answers client origin (at i).entries ≤ answers client origin (at (suc r)).entries) (sym here) (le_refl (answers client origin (at (suc r)).entries)))))
-            (λ (other : q ≢ r). subst (λ (z : ℕ). z ≤ answers client origin (at (suc q)).entries) (sym (get_or-set_other words word (answered_at client (base_of origin) origin q) k 0 (λ is. other (omega arith)))) (h.answered q low))))
+  noted : IsNote client (base_of origin) origin a e → Keeps (words_after words e.step)
+  noted m =
+      let r : ℕ = m.0 in
+      let word = answered client origin r in
+      let k = answers_of client (base_of origin) origin (account n past) in
+      let told : k ≤ answers_in client origin past r = subst (λ (i : ℕ). k ≤ answers_of client (base_of origin) origin (account i past)) m.1 (le_refl k) in
+      let here : get_or (set words word k) word 0 ≡ k = get_or-set_same words word k 0 (let wide = h.wide in let few = m.2 in omega arith) in
+      subst (λ (x : Entry). Keeps (words_after words x.step)) (sym m.3)
+      (goes (set words word k) (length-set words word k)
+        (subst (λ (z : ℕ). z ≤ length (log_in client origin past)) (sym (get_or-set_other words word (applied client origin) k 0 (omega arith))) h.told.updates)
+        (λ q few. dite (ℕ_discrete r q)
+          (λ (same : r ≡ q). subst (λ (i : ℕ). get_or (set words word k) (answered client origin i) 0 ≤ answers_in client origin past i) same (subst (λ (z : ℕ). z ≤ answers_in client origin past r) (sym here) told))
+          (λ (other : r ≢ q). subst (λ (z : ℕ). z ≤ answers_in client origin past q) (sym (get_or-set_other words word (answered client origin q) k 0 (λ is. other (omega arith)))) (h.told.answers q few))))
 
-    loaded : (word found : ℕ) → e.step ≡ Load word found → AreKept client origin (words_after words e.step) after
-    loaded word found is = subst (λ (s : Step). AreKept client origin (words_after words s) after) (sym is) (rests words refl (λ w low high. refl))
+  signalled : IsMark client (base_of origin) origin a e ⊎ (IsReached client (base_of origin) origin a e ⊎ (IsNote client (base_of origin) origin a e ⊎ IsAnswered client (base_of origin) origin a e))
+      → Keeps (words_after words e.step)
+  signalled c = ⊎_elim marked
+      (λ c. ⊎_elim (λ (m : IsReached client (base_of origin) origin a e). loads (applied client origin) m.1 (ap (λ (x : Entry). x.step) m.3))
+        (λ c. ⊎_elim noted (λ (m : IsAnswered client (base_of origin) origin a e). loads (answered client origin m.0) m.1 (ap (λ (x : Entry). x.step) m.4)) c) c) c
 
-    signalled : IsMark client (base_of origin) origin (at n) e ⊎ (IsReached client (base_of origin) origin (at n) e ⊎ (IsNote client (base_of origin) origin (at n) e ⊎ IsAnswered client (base_of origin) origin (at n) e)) → AreKept client origin (words_after words e.step) after
-    signalled c = ⊎_elim marked
-        (λ c. ⊎_elim (λ (m : IsReached client (base_of origin) origin (at n) e). loaded (applied_at client (base_of origin) origin) m.1 (ap (λ (x : Entry). x.step) m.3))
-          (λ c. ⊎_elim noted (λ (m : IsAnswered client (base_of origin) origin (at n) e). loaded (answered_at client (base_of origin) origin m.0) m.1 (ap (λ (x : Entry). x.step) m.4)) c) c) c
+  each_keeps : MaySignal client (base_of origin) origin a e → Keeps (words_after words e.step)
+  each_keeps may = ⊎_elim
+      (λ (below : word_of e.step < low client origin). elsewhere (λ s. let from = s.0 in omega arith))
+      (λ (from : low client origin ≤ word_of e.step). ⊎_elim (λ (to : word_of e.step < high client origin). signalled (may (from, to)))
+        (λ (past : high client origin ≤ word_of e.step). elsewhere (λ s. let to = s.1 in omega arith)) (cases_lt (word_of e.step) (high client origin)))
+      (cases_lt (word_of e.step) (low client origin))
 
-    pub keeps : MaySignal client (base_of origin) origin (at n) e → AreKept client origin (words_after words e.step) after
-    keeps may = ⊎_elim
-        (λ (low : word_of e.step < base_of origin + own_size client origin). elsewhere (λ s. let inside = s.0 in omega arith))
-        (λ (high : base_of origin + own_size client origin ≤ word_of e.step). ⊎_elim
-          (λ (inside : word_of e.step < base_of origin + size_with (own_size client origin) (readers origin)). signalled (may (high, inside)))
-          (λ (past : base_of origin + size_with (own_size client origin) (readers origin) ≤ word_of e.step). elsewhere (λ s. let inside = s.1 in omega arith))
-          (cases_lt (word_of e.step) (base_of origin + size_with (own_size client origin) (readers origin))))
-        (cases_lt (word_of e.step) (base_of origin + own_size client origin))
+pub keeps : {C : Type 0} (client : Client C) → LogGrows client → AnsweredRises client → (origin : Origin (Signals C))
+    → IsInvariantAlong grow (MaySignal client (base_of origin) origin) (AreKept client origin)
+keeps client grows rises origin past words at n e h may fits =
+    each_keeps client grows rises origin past words at n e h (subst (λ (b : Account). MaySignal client (base_of origin) origin b e) (h.accounts n) may)

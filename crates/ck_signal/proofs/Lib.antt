@@ -1,4 +1,5 @@
+mod Growing
 mod Kept
+mod TrueSignals
 mod Splits
-mod Tellings
 mod Steps

@@ -1,5 +1,5 @@
 -- The steps of the calls: that the domain allows them, and what they tell.
-use Rattle.std.proofs.Common.{◌≡◌, ℕ, suc, ◌+◌, ◌-◌, ◌*◌, ◌^◌, ◌<◌, ◌≤◌, ◌⊎◌, ⊎_elim, inl, inr, slice_index, List, [], ◌∷◌, ◌++◌, length, append_assoc, refl, sym, ap, ◌∙◌, subst, arith}
+use Rattle.std.proofs.Common.{◌≡◌, ℕ, suc, ◌+◌, ◌-◌, ◌*◌, ◌^◌, ◌<◌, ◌≤◌, ◌⊎◌, ⊎_elim, inl, inr, slice_index, List, [], ◌∷◌, ◌++◌, length, append-nil, append_assoc, refl, sym, ap, ◌∙◌, subst, arith}
 use Rattle.std.proofs.Math.Nat.{le_trans}
 use Rattle.ck_run.specs.declared.account.Account.{Account}
 use Rattle.ck_run.specs.declared.account.Entry.{Entry}
@@ -8,6 +8,7 @@ use Rattle.ck_run.specs.declared.account.Step.TheVariants.{Load, Store}
 use Rattle.ck_run.specs.Range.{word_of}
 use Rattle.ck_run.specs.Run.{Run, account, entry}
 use Rattle.ck_run.specs.Rule.{unused}
+use Rattle.ck_run.specs.Machine.{state_after}
 use Rattle.ck_run.specs.Tokens.{adding, did, number, origin}
 use Rattle.ck_run.proofs.Law.{obeys_append, obeys_parts}
 use Rattle.ck_run.proofs.Moments.{part_follows}
@@ -18,9 +19,14 @@ use Rattle.ck_epoch.specs.Calls.{MayFollow, rec_of}
 use Rattle.ck_signal.specs.declared.signals.Signals.{Signals}
 use Rattle.ck_signal.specs.Words.{applied_word, answered_word, mark, reached, note, answered as asked, marks, reaches, notes, asks}
 use Rattle.ck_signal.specs.Signals.{inside, readers, grow, own_size, IsMark, IsReached, IsNote, IsAnswered, MaySignal, log_of, signals}
-use Rattle.ck_signal.specs.Told.{applied, answered, log_in, answers_in, IsRunOf, IsPlace, AreBelow, Telling, log, answers, HasSeen, HasBeenTold}
+use Rattle.ck_signal.specs.Told.{applied, answered, log_in, answers_in, IsRunOf, IsPlace, AreBelow, TrueSignals, log, answers, HasSeen, HasBeenTold}
 use Rattle.ck_signal.proofs.Splits.{split}
-use Rattle.ck_signal.proofs.Tellings.{grown, telling}
+use Rattle.ck_signal.proofs.TrueSignals.{true_signals}
+
+-- an account that got these entries
+grown : (a : Account) (es : List Entry) → state_after grow a es ≡ record a { entries = a.entries ++ es }
+grown a [] = ap (λ (l : List Entry). record a { entries = l }) (sym (append-nil a.entries))
+grown a (e ∷ es) = grown (grow a e) es ∙ ap (λ (l : List Entry). record a { entries = l }) (append_assoc a.entries (e ∷ []) es)
 
 module _ {C : Type 0} (client : Client C) where
   -- a step on a signal word that is one of the calls
@@ -100,8 +106,8 @@ module _ {C : Type 0} (client : Client C) where
 
   -- What the two loads tell, by the law
   module _ (grows : LogGrows client) (rises : AnsweredRises client) (t : Token (Signals C)) where
-    law : Telling client
-    law = telling client grows rises
+    law : TrueSignals client
+    law = true_signals client grows rises
 
     abbrev o : Origin (Signals C)
     o = origin t

@@ -49,8 +49,8 @@ module _ {C : Type 0} (client : Client C) where
     pub given : k ≤ answers_in origin past r
     pub places : (i place : ℕ) → i < k → IsPlace origin run r i place → place ≤ m
 
-  -- The law of signals
-  pub record Telling : Type 0 where
+  -- The law of signals: they tell what is true
+  pub record TrueSignals : Type 0 where
     -- the log at a moment begins with the log at each earlier one, and no reader takes answers back
     pub grows : (origin : Origin (Signals C)) (past more : Run) → (us : List client.Update) × (log_in origin (past ++ more) ≡ log_in origin past ++ us)
     pub rises : (origin : Origin (Signals C)) (past more : Run) (r : ℕ) → answers_in origin past r ≤ answers_in origin (past ++ more) r
