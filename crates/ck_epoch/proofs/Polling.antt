@@ -353,3 +353,9 @@ low_record client t u e rec busy now at is low = subst (λ (o : Origin _). rec <
 pub first_is : (busy : Option ℕ) (rec : ℕ) → first_busy busy rec ≡ Some (unwrap_or busy rec)
 first_is None rec = refl
 first_is (Some r) rec = refl
+
+-- after the last record
+pub end_record : {C : Type 0} (client : Client C) (t u : Token C) (e rec : ℕ) (busy : Option ℕ) (d now : Table (About C)) (about : About C) → IsScanning client t u e rec busy → table u ≡ now → d ≡ now
+    → d.origin.config ≡ about → rec ≡ about.records → IsScanning client t u e (records_of (origin t)) busy
+end_record client t u e rec busy d now about at is keeps told all = subst (λ (k : ℕ). IsScanning client t u e k busy)
+    (all ∙ (ap (λ (a : About _). a.records) (sym told) ∙ (ap (λ (x : Table (About _)). records_of x.origin) (keeps ∙ sym is) ∙ ap records_of (ap origin at.steps)))) at
