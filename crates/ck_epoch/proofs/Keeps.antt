@@ -15,7 +15,7 @@ use Rattle.ck_run.proofs.Law.{moved_here, moved_else}
 use Rattle.ck_run.proofs.Runs.{account_here, account_else}
 use Rattle.ck_epoch.specs.State.{base, active_word, epoch_word, begin, end, retire, poll, synchronize, barrier, Task, polling, first_round, second_round, Stage, outside, entering, holding, inside, free, scanning, comparing, between, Retirement, retirement, TokenState, at_depth, first_busy, is_clear, dispatch, dispatch_all, GoesOn, Calls, after_load, after_record, after_blocked, after_raise, after_step, next, IsClients, SetsActive, Retires, MayStep, May}
 use Rattle.ck_epoch.specs.Epochs.{place, IsOpen}
-use Rattle.ck_epoch.specs.Held.{IsWriting, IsReading, IsTimely, IsCurrent, IsRecord, risen, IsWriter, AreHeld}
+use Rattle.ck_epoch.specs.Held.{IsOfWriter, IsOfPass, IsTimely, IsCurrent, IsRecord, risen, IsWriter, AreHeld}
 use Rattle.ck_epoch.proofs.Places.{count, open_cases, open_else, open_stays, not_ended}
 use Rattle.ck_epoch.proofs.Records as pass
 use Rattle.ck_epoch.proofs.RecordsKept as record_
@@ -24,7 +24,7 @@ use Rattle.ck_epoch.proofs.WriterKept.{are_made}
 use Rattle.ck_epoch.proofs.Records.{AreMade}
 use Rattle.ck_epoch.proofs.RecordsKept.{at_stage}
 
-roles_apart : (g : Stage) → IsWriting g → IsReading g → ⊥
+roles_apart : (g : Stage) → IsOfWriter g → IsOfPass g → ⊥
 roles_apart free a b = b
 roles_apart (scanning task e rec busy) a b = b
 roles_apart (comparing task e rec busy) a b = b
@@ -191,8 +191,8 @@ module _ (records : ℕ) (past : Run) (words : List ℕ) (at : ℕ → TokenStat
     used : (g : Stage) → T.stage ≡ g → g ≢ outside → q < records
     used g is other = dite (dec_lt q records) (λ l. l) (λ n. absurd (other (sym is ∙ h.unused q (omega arith))))
 
-    not_writing : (g : Stage) → T.stage ≡ g → IsWriting g → g ≢ outside → ⊥
-    not_writing g is w other = roles_apart g w (subst IsReading is (h.each q (used g is other)).reading)
+    not_writing : (g : Stage) → T.stage ≡ g → IsOfWriter g → g ≢ outside → ⊥
+    not_writing g is w other = roles_apart g w (subst IsOfPass is (h.each q (used g is other)).reading)
 
     -- the client's steps
     client_load : (a x : ℕ) → e.step ≡ Load a x → (n : ℕ) → AreHeld records after words (moved at (suc q) (record T { steps = n }))
@@ -240,8 +240,8 @@ module _ (records : ℕ) (past : Run) (words : List ℕ) (at : ℕ → TokenStat
     abbrev then : Run
     then = past ++ (0, e) ∷ []
 
-    not_reading : (g : Stage) → V.stage ≡ g → IsReading g → ⊥
-    not_reading g is r = roles_apart g (subst IsWriting is h.writer.writing) r
+    not_reading : (g : Stage) → V.stage ≡ g → IsOfPass g → ⊥
+    not_reading g is r = roles_apart g (subst IsOfWriter is h.writer.writing) r
 
     -- a load
     load_goes : (s : Stage) → V.stage ≡ s → (t : TokenState) → (IsWriter records E (account 0 past) (at_stage V s) → IsWriter records E (account 0 past ++ e ∷ []) t)

@@ -12,3 +12,7 @@ mod Sections
 mod ClientSteps
 mod Retiring
 mod Polling
+mod Waits
+mod TwoRounds
+mod FirstWords
+mod Parting

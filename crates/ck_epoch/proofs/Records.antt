@@ -5,7 +5,7 @@ use Rattle.ck_run.specs.declared.account.Entry.{Entry}
 use Rattle.ck_run.specs.Run.{Run, account}
 use Rattle.ck_epoch.specs.State.{Stage, outside, entering, holding, inside, free, scanning, comparing, between, Retirement, TokenState}
 use Rattle.ck_epoch.specs.Epochs.{place, IsOpen, IsPassed, IsRetired}
-use Rattle.ck_epoch.specs.Held.{IsReading, active_of, IsTimely, IsCurrent, IsQuiet, halfway, IsGuarded, IsOpenAt, IsRecord, IsWriter}
+use Rattle.ck_epoch.specs.Held.{IsOfPass, active_of, IsTimely, IsCurrent, IsQuiet, halfway, IsGuarded, IsOpenAt, IsRecord, IsWriter}
 use Rattle.ck_epoch.proofs.Places.{count, place_stays, place_below, opened_before, open_cases, open_else, open_stays, not_ended, inside as is_inside}
 
 -- the entries that the writer's state names have been made

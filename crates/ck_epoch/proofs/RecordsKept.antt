@@ -9,7 +9,7 @@ use Rattle.ck_run.specs.Run.{Run, account}
 use Rattle.ck_epoch.specs.Lists.{is_on}
 use Rattle.ck_epoch.specs.State.{Task, polling, first_round, second_round, Stage, outside, entering, holding, inside, free, scanning, comparing, between, Retirement, retirement, TokenState, on_list, off_list, list_by_list, dispatch, dispatch_all}
 use Rattle.ck_epoch.specs.Epochs.{place, IsOpen, IsPassed, IsRetired}
-use Rattle.ck_epoch.specs.Held.{IsReading, active_of, IsTimely, IsCurrent, IsQuiet, halfway, IsGuarded, IsOpenAt, IsRecord}
+use Rattle.ck_epoch.specs.Held.{IsOfPass, active_of, IsTimely, IsCurrent, IsQuiet, halfway, IsGuarded, IsOpenAt, IsRecord}
 use Rattle.ck_epoch.proofs.Places.{count, place_stays, open_else}
 use Rattle.ck_epoch.proofs.Records.{AreMade, open_along}
 

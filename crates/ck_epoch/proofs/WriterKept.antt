@@ -10,7 +10,7 @@ use Rattle.ck_run.specs.Run.{handing}
 use Rattle.ck_epoch.specs.Lists.{is_on}
 use Rattle.ck_epoch.specs.State.{Task, polling, first_round, second_round, Stage, free, scanning, comparing, between, Retirement, retirement, TokenState, list_by_list, dispatch, dispatch_all}
 use Rattle.ck_epoch.specs.Epochs.{IsRetired}
-use Rattle.ck_epoch.specs.Held.{IsWriting, halfway, due, risen, IsBegun, IsScan, IsWriter}
+use Rattle.ck_epoch.specs.Held.{IsOfWriter, halfway, due, risen, IsBegun, IsScan, IsWriter}
 use Rattle.ck_epoch.proofs.Places.{inside}
 use Rattle.ck_epoch.proofs.Records.{AreMade}
 use Rattle.ck_epoch.proofs.RecordsKept.{at_stage, All-four, none_some, some_same}

@@ -6,19 +6,19 @@ use Rattle.ck_epoch.specs.State.{base, active_word, epoch_word, Task, polling, f
 use Rattle.ck_epoch.specs.Epochs.{place, IsOpen, IsPassed, IsRetired}
 
 -- a stage of the writer, and one of a pass
-abbrev pub IsWriting : Stage → Type 0
-IsWriting free = Unit {0}
-IsWriting (scanning task e rec busy) = Unit {0}
-IsWriting (comparing task e rec busy) = Unit {0}
-IsWriting (between all started) = Unit {0}
-IsWriting g = ⊥
+abbrev pub IsOfWriter : Stage → Type 0
+IsOfWriter free = Unit {0}
+IsOfWriter (scanning task e rec busy) = Unit {0}
+IsOfWriter (comparing task e rec busy) = Unit {0}
+IsOfWriter (between all started) = Unit {0}
+IsOfWriter g = ⊥
 
-abbrev pub IsReading : Stage → Type 0
-IsReading outside = Unit {0}
-IsReading entering = Unit {0}
-IsReading (holding g) = Unit {0}
-IsReading (inside d g) = Unit {0}
-IsReading g = ⊥
+abbrev pub IsOfPass : Stage → Type 0
+IsOfPass outside = Unit {0}
+IsOfPass entering = Unit {0}
+IsOfPass (holding g) = Unit {0}
+IsOfPass (inside d g) = Unit {0}
+IsOfPass g = ⊥
 
 -- The active word counts the open sections, and is 1 within a `begin`. So where it is 0 no section is open
 abbrev pub active_of : Stage → ℕ
@@ -70,7 +70,7 @@ IsOpenAt global older r w g = ⊥
 
 -- What holds of the record r, its pass at this stage, and the writer w
 pub record IsRecord (run : Run) (global active own r : ℕ) (w : TokenState) (g : Stage) : Type 0 where
-  pub reading : IsReading g
+  pub reading : IsOfPass g
   pub behind : own ≤ global
   pub counted : active ≡ active_of g
   pub timely : IsTimely global own g
@@ -105,7 +105,7 @@ IsScan records global steps g = Unit {0}
 
 -- what holds of the writer, of its account
 pub record IsWriter (records global : ℕ) (entries : List Entry) (w : TokenState) : Type 0 where
-  pub writing : IsWriting w.stage
+  pub writing : IsOfWriter w.stage
   pub steps : w.steps ≡ length entries
   pub epoch : w.epoch ≡ global
   pub late : 4 ≤ global

@@ -7,3 +7,5 @@ pub mod Calls
 pub mod Scan
 pub mod Epochs
 pub mod Held
+pub mod Rounds
+pub mod Closing

@@ -15,6 +15,7 @@ mod opening;
 mod reading;
 #[cfg(test)]
 mod tests;
+mod waiting;
 mod writing;
 
 pub use about::About;

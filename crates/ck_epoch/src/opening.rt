@@ -1,4 +1,10 @@
 //! How a domain is made, and what it leaves.
+ghost use Rattle.std.specs.Prelude.{◌≡◌, ℕ, ◌+◌, ◌<◌, ◌≤◌, ◌^◌, [], length, vec_len, vec_capacity, IfOk, All};
+ghost use Rattle.ck_run.specs.Tokens.{table, number};
+ghost use Rattle.ck_epoch.specs.State.{records_of};
+ghost use Rattle.ck_epoch.specs.Lists.{Answers};
+ghost use Rattle.ck_epoch.specs.Closing.{opened, AreOpening, keeping, fresh, AreFresh, joined_all, IsClosedDomain};
+
 use crate::about::About;
 use crate::answers::Closed;
 use crate::backlog::Backlog;
@@ -16,7 +22,11 @@ fn opening_words<C: Client>(
     alloc: Global,
     client: &C,
     records: u64,
-) -> Result<Vec<u64>, AllocError> {
+) -> Result<Vec<u64>, AllocError>
+    requires records { (1 ≤ records) × (records ≤ 64) }
+    requires size { C.meaning.size client.now ≤ 2 ^ 33 }
+    ensures { IfOk result (λ words. AreOpening C.meaning (opened client.now records words.items)) }
+{
     let base = base_word(records);
     let size = client.words();
     let mut words = vec![in alloc; 0u64; base + size as usize]?;
@@ -37,7 +47,13 @@ impl<C: Client + Drop> Domain<C> {
         token: &mut Token<About<C>>,
         passes: &mut Vec<Pass<C>>,
         records: u64,
-    ) {
+    )
+        requires token { token.old ≡ record { id = words.now.id; view = keeping words.now.origin 1 records } }
+        requires opening { AreOpening C.meaning words.now.origin × (records_of words.now.origin ≡ records) }
+        requires room { (passes.old.items ≡ []) × (records ≤ vec_capacity passes.old) }
+        ensures token { token.new ≡ fresh words.now 0 }
+        ensures passes { (vec_len passes.new ≡ records) × AreFresh words.now 1 passes.new.items }
+    {
         for rec in 0..records {
             let other = words.part(token);
             passes.push_reserved(Pass {
@@ -58,7 +74,16 @@ impl<C: Client + Drop> Domain<C> {
         records: u64,
         room: u64,
         handler: F,
-    ) -> Result<(Domain<C>, Writer<C, F>, Vec<Pass<C>>), AllocError> {
+    ) -> Result<(Domain<C>, Writer<C, F>, Vec<Pass<C>>), AllocError>
+        requires records { (1 ≤ records) × (records ≤ 64) }
+        requires size { C.meaning.size client ≤ 2 ^ 33 }
+        requires room { room ≤ 2 ^ 20 }
+        requires handler { Answers (C.meaning.retires client) (C.meaning.home client) (F.pre handler) (F.post handler) }
+        ensures about { IfOk result (λ r. r.0.origin.config ≡ record { client = client; records = records }) }
+        ensures words { IfOk result (λ r. AreOpening C.meaning r.0.origin) }
+        ensures writer { IfOk result (λ r. r.1 ≡ record { token = fresh r.0 0; calls = 0; waiting = []; room = room; handler = handler; tally = 0 }) }
+        ensures passes { IfOk result (λ r. (vec_len r.2 ≡ records) × AreFresh r.0 1 r.2.items) }
+    {
         let mut passes = Vec::with_capacity(alloc, records as usize)?;
         let backlog = Backlog::new(alloc, room as usize)?;
         let opening = Opening {
@@ -84,15 +109,25 @@ impl<C: Client + Drop> Domain<C> {
         words: &Words<About<C>, Calls<C>>,
         token: &mut Token<About<C>>,
         passes: Vec<Pass<C>>,
-    ) {
+    )
+        requires tables { (table token.old ≡ words.now) × All (λ p. table p.token ≡ words.now) passes.items }
+        ensures table { table token.new ≡ table token.old }
+        ensures view { token.new.view ≡ joined_all token.old.view passes.items }
+    {
         for pass in passes {
             let Pass { token: other, .. } = pass;
             words.join(token, other);
         }
     }
 
-    /// The words of the client as they were left. All passes are given back, and no section is open.
-    pub fn close<F: Drop>(self, writer: Writer<C, F>, passes: Vec<Pass<C>>) -> Closed {
+    /// The words of the client as they were left. The writer and the passes are given back: what they did are the parts of one true run,
+    /// and in it nothing was dispatched while a section that is older was open.
+    pub fn close<F: Drop>(self, writer: Writer<C, F>, passes: Vec<Pass<C>>) -> Closed
+        requires writer { table writer.token ≡ self }
+        requires passes { All (λ p. table p.token ≡ self) passes.items }
+        ensures count { vec_len result.words ≡ C.meaning.size self.origin.config.client }
+        ensures run { IsClosedDomain C.meaning writer.token passes.items result.words.items }
+    {
         let Domain { words, about } = self;
         let Writer { mut token, .. } = writer;
         Domain::join_all(&words, &mut token, passes);

@@ -1,0 +1,58 @@
+use Rattle.std.proofs.Common.{◌≡◌, ◌+◌, ◌<◌, ◌^◌, true, refl, sym, ap, ◌∙◌, subst, arith}
+use Rattle.std.proofs.lemmas.List.Elements.{All-nil}
+use Rattle.ck_run.specs.Tokens.{table, origin, number}
+use Rattle.ck_epoch.specs.State.{Token, TokenState, records_of, barrier, state}
+use Rattle.ck_epoch.specs.declared.item.Retired.{Retired}
+use Rattle.ck_epoch.specs.Lists.{Backlog, AreRetired}
+use Rattle.ck_epoch.specs.Rounds.{Rounds, HaveEnded}
+use Rattle.ck_epoch.proofs.TwoRounds.{is_free, counts_more, writer_after, have_ended}
+use Rattle.ck_epoch.proofs.domain.Domain.barrier.Goals as goal
+
+pub two_rounds-requires-clause-table : goal.two_rounds-requires-clause-table
+two_rounds-requires-clause-table g c = ap (λ w. table w.token) c.writer.view_is ∙ c.requires.table
+
+pub two_rounds-requires-clause-free : goal.two_rounds-requires-clause-free
+two_rounds-requires-clause-free g c = is_free g.C.Client.meaning c.writer.inside.token c.writer.inside.backlog c.writer.invariant.0 c.writer.inside.calls c.writer.invariant.1
+    (subst (λ w. w.calls < 2 ^ 40) (sym c.writer.view_is) c.requires.calls)
+
+pub two_rounds-requires-clause-name : goal.two_rounds-requires-clause-name
+two_rounds-requires-clause-name g c = (true, refl)
+
+pub invariant_of-writer : goal.invariant_of-writer
+invariant_of-writer g c =
+    let t = c.writer.inside.token in
+    let u = c.two_rounds.new.token in
+    let e = c.two_rounds.ensures in
+    let w = c.writer.invariant.0 in
+    let same = ap number (e.steps barrier refl).4 in
+    let is = e.state true refl in
+    let none = ap (λ (b : Backlog). b.pending) c.dispatch_all.ensures.backlog in
+    let retires = g.C.Client.meaning.retires (origin t).config.client in (
+      writer_after g.C.Client.meaning t c.writer.inside.backlog w u true (state u).steps e.part e.table same is c.dispatch_all.new.self none
+        (subst (AreRetired retires) (sym none) (All-nil (λ (r : Retired). retires r.item ≡ true))),
+      counts_more g.C.Client.meaning t c.writer.inside.backlog w u true (state u).steps e.part e.table same is c.writer.inside.calls c.writer.invariant.1,
+    )
+
+pub returns-clause-table : goal.returns-clause-table
+returns-clause-table g c = let view = ap (λ w. w.token) c.writer.view_is in (c.two_rounds.ensures.table ∙ ap table view, ap number (c.two_rounds.ensures.steps barrier refl).4 ∙ ap number view)
+
+pub returns-clause-steps : goal.returns-clause-steps
+returns-clause-steps g c = subst (λ (t : Token _). Rounds (records_of c.args.self.now.origin) barrier (state t).epoch t c.two_rounds.new.token) (ap (λ w. w.token) c.writer.view_is)
+    (c.two_rounds.ensures.steps barrier refl)
+
+pub returns-clause-ended : goal.returns-clause-ended
+returns-clause-ended g c =
+    let t = c.writer.inside.token in
+    let u = c.two_rounds.new.token in
+    let e = c.two_rounds.ensures in
+    let w = c.writer.invariant.0 in
+    let steps = (e.steps barrier refl).4 in
+    let free = is_free g.C.Client.meaning t c.writer.inside.backlog w c.writer.inside.calls c.writer.invariant.1 (subst (λ w. w.calls < 2 ^ 40) (sym c.writer.view_is) c.requires.calls) in
+    subst (λ (x : Token _). HaveEnded g.C.Client.meaning x u) (ap (λ w. w.token) c.writer.view_is)
+      (have_ended g.C.Client.meaning g.met.C.Client.passes t u (state u).steps true free (ap origin steps) (ap number steps ∙ w.first) (e.state true refl))
+
+pub returns-clause-pending : goal.returns-clause-pending
+returns-clause-pending g c = ap (λ (s : TokenState). s.pending) (c.two_rounds.ensures.state true refl)
+
+pub returns-clause-epoch : goal.returns-clause-epoch
+returns-clause-epoch g c = ap (λ (s : TokenState). s.epoch) (c.two_rounds.ensures.state true refl) ∙ ap (λ w. (state w.token).epoch + 2) c.writer.view_is
