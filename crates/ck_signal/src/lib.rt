@@ -5,6 +5,8 @@
 mod calls;
 mod law;
 mod signals;
+#[cfg(test)]
+mod tests;
 
 pub use calls::{answered, mark, note, reached};
 pub use law::holds_after_every_run;
