@@ -9,9 +9,10 @@ use Rattle.ck_run.specs.Range.{word_of}
 use Rattle.ck_run.specs.Run.{Run, account, entry}
 use Rattle.ck_run.specs.Rule.{unused}
 use Rattle.ck_run.specs.Machine.{state_after}
-use Rattle.ck_run.specs.Tokens.{adding, did, number, origin}
+use Rattle.ck_run.specs.Tokens.{Table, table, adding, did, number, origin}
 use Rattle.ck_run.proofs.Law.{obeys_append, obeys_parts}
 use Rattle.ck_run.proofs.Moments.{part_follows}
+use Rattle.ck_epoch.specs.declared.about.About.{About}
 use Rattle.ck_epoch.specs.State.{Origin, Token, base_of, records_of}
 use Rattle.ck_epoch.specs.Client.{Client, Passes, LogGrows, AnsweredRises, program}
 use Rattle.ck_epoch.specs.Ends.{IsInRun, IsReading, IsWriting}
@@ -20,6 +21,7 @@ use Rattle.ck_signal.specs.declared.signals.Signals.{Signals}
 use Rattle.ck_signal.specs.Words.{applied_word, answered_word, mark, reached, note, answered as asked, marks, reaches, notes, asks}
 use Rattle.ck_signal.specs.Signals.{inside, readers, grow, own_size, IsMark, IsReached, IsNote, IsAnswered, MaySignal, log_of, signals}
 use Rattle.ck_signal.specs.Told.{applied, answered, log_in, answers_in, IsRunOf, IsPlace, AreBelow, TrueSignals, log, answers, HasSeen, HasBeenTold}
+use Rattle.ck_signal.specs.Laws.{goes_on}
 use Rattle.ck_signal.proofs.Splits.{split}
 use Rattle.ck_signal.proofs.TrueSignals.{true_signals}
 
@@ -39,6 +41,13 @@ module _ {C : Type 0} (client : Client C) where
         passes (base_of o) (inside o) (number t) (did t) e f.0 (inr high, λ at log is. absurd cc),
         obeys_append grow (MaySignal client (base_of o) o) (unused (number t)) (did t) (e ∷ []) f.1 (subst (λ (a : Account). MaySignal client (base_of o) o a e) (sym (grown (unused (number t)) (did t))) may, tt),
       )
+
+  -- a step on a word of the client inside
+  pub may_step : (t : Token (Signals C)) (d : Table (About (Signals C))) (e : Entry) → table t ≡ d → IsInRun (signals client) t → word_of e.step < base_of d.origin + own_size client d.origin
+      → client.follows (base_of (origin t)) (inside (origin t)) (number t) (did t ++ e ∷ []) → MayFollow (signals client) t e
+  may_step t d e same part below may =
+      let low = subst (λ (x : Table (About (Signals C))). word_of e.step < base_of x.origin + own_size client x.origin) (sym same) below in
+      goes_on client (base_of (origin t)) (origin t) (number t) (did t) e (λ s. let from = s.0 in omega arith) (part_follows (program (signals client)) (origin t) t.view.own part).3 may
 
   -- the words of a call, by the domain's origin
   module _ (t : Token (Signals C)) (o : Origin (Signals C)) (same : origin t ≡ o) (word : ℕ) where
