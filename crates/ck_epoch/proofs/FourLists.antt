@@ -1,12 +1,15 @@
 -- The four lists, dispatched one after the other, are all pending items.
-use Rattle.std.proofs.Common.{◌≡◌, ◌≢◌, ℕ, ◌%◌, ◌<◌, ◌==◌, Bool, true, false, not, cond, List, [], ◌∷◌, ◌++◌, map, length, refl, sym, ap, ◌∙◌, subst, arith, eq-eqb, ne_eqb}
+use Rattle.std.proofs.Common.{◌≡◌, ◌≢◌, ℕ, ◌+◌, ◌%◌, ◌<◌, ◌==◌, Bool, true, false, not, cond, List, [], ◌∷◌, ◌++◌, map, length, refl, sym, ap, ◌∙◌, subst, arith, eq-eqb, ne_eqb}
 use Rattle.std.proofs.lemmas.List.{append_assoc, map-append, append-nil}
+use Rattle.std.proofs.lemmas.List.{length-append}
+use Rattle.std.proofs.lemmas.List.Filters.{length-filter_both}
 use Rattle.std.proofs.lemmas.List.Elements.{All-filter}
 use mathlib.Core.Logic.{dite}
 use native.Mathlib.Decide.{ℕ_discrete}
 use Rattle.ck_words.specs.declared.back.Back.{Back}
 use Rattle.ck_epoch.specs.declared.item.Item.{Item}
 use Rattle.ck_epoch.specs.declared.item.Retired.{Retired}
+use Rattle.ck_epoch.specs.State.{Retirement, queue, off_list}
 use Rattle.ck_epoch.specs.Lists.{is_on, on, off, by_list, homes, Backlog, answered, AreRetired}
 
 off_same : (list : ℕ) (r : Retired) (xs : List Retired) → r.epoch % 4 ≡ list → off list (r ∷ xs) ≡ off list xs
@@ -41,6 +44,10 @@ none_left (r ∷ xs) = gone ∙ none_left xs
             (λ e. ap (off 3) (off_same 2 r (off 1 (off 0 xs)) e))
             (λ n2. ap (off 3) (off_other 2 r (off 1 (off 0 xs)) n2) ∙ off_same 3 r (off 2 (off 1 (off 0 xs))) (omega arith))))
 
+map_cond : (b : Bool) (k : Retirement) (ks : List Retirement) → queue (cond b (k ∷ ks) ks) ≡ cond b (k.retired ∷ queue ks) (queue ks)
+map_cond true k ks = refl
+map_cond false k ks = refl
+
 -- what the dispatches of the four lists take out, one after the other
 in_order : (xs : List Retired) → ((on 0 xs ++ on 1 (off 0 xs)) ++ on 2 (off 1 (off 0 xs))) ++ on 3 (off 2 (off 1 (off 0 xs))) ≡ by_list xs
 in_order xs =
@@ -51,6 +58,26 @@ in_order xs =
     ∙ (ap (λ (ys : List Retired). on 0 xs ++ (on 1 xs ++ (ys ++ on 3 o2))) (on-off 2 1 (λ e. omega arith) o0 ∙ on-off 2 0 (λ e. omega arith) xs)
     ∙ ap (λ (ys : List Retired). on 0 xs ++ (on 1 xs ++ (on 2 xs ++ ys)))
         (on-off 3 2 (λ e. omega arith) o1 ∙ (on-off 3 1 (λ e. omega arith) o0 ∙ on-off 3 0 (λ e. omega arith) xs)))))
+
+one_list : (list : ℕ) (xs : List Retired) → length (on list xs) + length (off list xs) ≡ length xs
+one_list list xs = length-filter_both (is_on list) (λ (r : Retired). not (is_on list r)) (λ r. refl) xs
+
+-- they are as many as were pending
+pub length_by_list : (xs : List Retired) → length (by_list xs) ≡ length xs
+length_by_list xs =
+    let o0 = off 0 xs in let o1 = off 1 o0 in let o2 = off 2 o1 in
+    let e = ap length (sym (in_order xs)) in
+    let a = length-append ((on 0 xs ++ on 1 o0) ++ on 2 o1) (on 3 o2) in
+    let b = length-append (on 0 xs ++ on 1 o0) (on 2 o1) in
+    let c = length-append (on 0 xs) (on 1 o0) in
+    let p = one_list 0 xs in let q = one_list 1 o0 in let r = one_list 2 o1 in let s = one_list 3 o2 in
+    let z = ap length (none_left xs) in
+    omega arith
+
+-- the writer's queue has the lists that its account tells of
+pub queue_off : (list : ℕ) (ks : List Retirement) → queue (off_list list ks) ≡ off list (queue ks)
+queue_off list [] = refl
+queue_off list (k ∷ ks) = map_cond (not (is_on list k.retired)) k (off_list list ks) ∙ ap (λ (rs : List Retired). cond (not (is_on list k.retired)) (k.retired ∷ rs) rs) (queue_off list ks)
 
 module _ (home : Item → Back) where
   -- one list is dispatched

@@ -12,6 +12,7 @@ mod Sections
 mod ClientSteps
 mod Retiring
 mod Polling
+mod Polled
 mod Waits
 mod TwoRounds
 mod FirstWords

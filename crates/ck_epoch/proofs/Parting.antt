@@ -1,6 +1,8 @@
 -- The tokens at the beginning and at the end.
-use Rattle.std.proofs.Common.{◌≡◌, ℕ, zero, suc, ◌+◌, ◌-◌, ◌*◌, ◌<◌, ◌≤◌, true, List, [], ◌∷◌, ◌++◌, length, drop, All, refl, sym, ap, ◌∙◌, subst, arith}
+use Rattle.std.proofs.Common.{◌≡◌, ℕ, zero, suc, ◌+◌, ◌-◌, ◌*◌, ◌<◌, ◌≤◌, true, List, [], ◌∷◌, ◌++◌, length, take, drop, All, refl, sym, ap, ◌∙◌, subst, arith}
+use Rattle.std.proofs.lemmas.List.{length-drop}
 use Rattle.std.proofs.lemmas.List.Elements.{All-nil, All-cons, All-head, All-tail, All-append}
+use Rattle.std.proofs.Math.Seq.{take-append_seam}
 use Rattle.ck_run.specs.declared.account.Account.{Account}
 use Rattle.ck_run.specs.declared.account.View.{View}
 use Rattle.ck_run.specs.Run.{Run, replay, account}
@@ -81,3 +83,50 @@ module _ {C : Type 0} where
       },
       let z : (state t).calls ≡ 0 = ap (λ (x : Token C). (state x).calls) is in omega arith,
     )
+
+parts_parts : (run : Run) (xs ys : List Account) → AreParts run (xs ++ ys) → AreParts run xs × AreParts run ys
+parts_parts run [] ys h = (tt, h)
+parts_parts run (x ∷ xs) ys h = let r = parts_parts run xs ys h.1 in ((h.0, r.0), r.1)
+
+module _ {C : Type 0} where
+  pub joined_snoc : (v : View (About C)) (ps : List (Pass C)) (p : Pass C) → joined_all v (ps ++ p ∷ []) ≡ joined (joined_all v ps) p.token.view
+  joined_snoc v [] p = refl
+  joined_snoc v (x ∷ ps) p = joined_snoc (joined v x.token.view) ps p
+
+  abbrev IsPartOf : Run → Pass C → Type 0
+  IsPartOf run p = account (number p.token) run ≡ did p.token
+
+  parts_all : (run : Run) (v : View (About C)) (ps : List (Pass C)) → AreParts run ((joined_all v ps).own ∷ (joined_all v ps).kept) → AreParts run (v.own ∷ v.kept) × All (IsPartOf run) ps
+  parts_all run v [] h = (h, All-nil (IsPartOf run))
+  parts_all run v (p ∷ ps) h =
+      let r = parts_all run (joined v p.token.view) ps h in
+      let q = parts_parts run v.kept (p.token.view.own ∷ p.token.view.kept) r.0.1 in
+      ((r.0.0, q.0), All-cons (IsPartOf run) p ps q.1.0 r.1)
+
+  origin_all : (v : View (About C)) (ps : List (Pass C)) → (joined_all v ps).origin ≡ v.origin
+  origin_all v [] = refl
+  origin_all v (p ∷ ps) = origin_all (joined v p.token.view) ps
+
+  -- the accounts of the tokens that were given back are the parts of a true run, which is safe
+  pub closed_domain : (client : Client C) (w : Token C) (ps : List (Pass C)) (d : Table (About C)) (v : View (About C)) (words left : List ℕ) → v ≡ joined_all w.view ps → table w ≡ d
+      → All (λ (p : Pass C). table p.token ≡ d) ps → IsClosed (program client) v words → left ≡ drop (base_of (origin w)) words → IsClosedDomain client w ps left
+  closed_domain client w ps d v words left e same all closed left_is =
+      let c : IsClosed (program client) (joined_all w.view ps) words = subst (λ (x : View (About C)). IsClosed (program client) x words) e closed in
+      let o : (joined_all w.view ps).origin ≡ origin w = origin_all w.view ps in
+      let a = parts_all c.run w.view ps c.parts in
+      let is_run : IsRun (program client) (origin w) c.run = subst (λ (z : Origin C). IsRun (program client) z c.run) o c.is_run in
+      let epochs_run : IsRun (follows_of epochs) (origin w) c.run = run_weaker (program client) (follows_of epochs) (origin w) c.run (λ n es h. h.0) is_run in
+      record {
+        run = c.run;
+        is_run = is_run;
+        writer = a.0.0;
+        passes = λ k p l. (ap (λ (x : Table (About C)). x.origin) (all k p l ∙ sym same), a.1 k p l);
+        leaves = left_is ∙ ap (drop (base_of (origin w))) (sym (ap (λ (z : Origin C). replay z.words c.run) (sym o) ∙ c.leaves));
+        safe = safe (origin w) c.run epochs_run;
+        epochs = keeps_epochs (origin w) c.run epochs_run;
+      }
+
+-- what is left behind the words of the epochs
+pub left_behind : (k n : ℕ) (words rotated left : List ℕ) → k ≤ length words → n ≡ length words - k → rotated ≡ drop k words ++ take k words → left ≡ take n rotated → left ≡ drop k words
+left_behind k n words rotated left low is turned cut = cut ∙ (ap (take n) turned
+    ∙ (ap (λ (m : ℕ). take m (drop k words ++ take k words)) (is ∙ sym (length-drop k words)) ∙ take-append_seam (drop k words) (take k words)))

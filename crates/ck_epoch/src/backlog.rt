@@ -1,5 +1,5 @@
 //! The items that are pending, and the answers of the handler that wait for the writer. Only `new` takes memory.
-ghost use Rattle.std.specs.Prelude.{◌≡◌, ◌+◌, ◌<◌, ◌≤◌, [], ◌∷◌, ◌++◌, length, IfOk};
+ghost use Rattle.std.specs.Prelude.{◌≡◌, ◌+◌, ◌<◌, ◌≤◌, ◌^◌, [], ◌∷◌, ◌++◌, length, IfOk};
 ghost use Rattle.std.specs.Option.{option_to_list};
 ghost use Rattle.std.specs.VecDeque.{deque_len, deque_capacity};
 ghost use Rattle.ck_epoch.specs.Lists.{on, off, by_list, homes, answered, Answers, AreRetired};
@@ -114,6 +114,7 @@ impl Backlog {
         requires retired { AreRetired (C.meaning.retires client.now) self.old.pending }
         ensures backlog { self.new ≡ answered (C.meaning.home client.now) (on list self.old.pending) (off list self.old.pending) self.old }
         ensures count { result ≡ length (on list self.old.pending) }
+        ensures total { (result + length self.new.pending ≡ length self.old.pending) × (length self.old.pending < 2 ^ 63) }
     {
         dispatch(
             client,

@@ -1,50 +1,79 @@
-use Rattle.std.proofs.Common.{rules, ◌≡◌, ℕ, ◌+◌, ◌<◌, ◌≤◌, ◌⊎◌, ◌^◌, true, [], ◌∷◌, ◌++◌, length, None, MatchResult, ◌-◌, ◌*◌, ◌/◌, ◌%◌, Bool, false, nat_eq, nat_lt, List, slice_index_or, slice_set, bit_and, bit_or, Fits, w8, w32, w64, Bor, MutBor}
-use Rattle.std.specs.Option.{option_to_list}
-use Rattle.ck_run.specs.declared.account.Step.TheVariants.{Load, Store}
-use Rattle.ck_run.specs.Run.{entry, handing}
-use Rattle.ck_run.specs.Tokens.{table, number, adding, MayMake, Makes}
-use Rattle.ck_epoch.specs.declared.answers.Scan.TheVariants.{Behind}
-use Rattle.ck_epoch.specs.State.{Token as TokenOf}
-use Rattle.ck_epoch.specs.State.{state, free, queue, base_of, records_of, retire}
-use Rattle.ck_epoch.specs.Lists.{homes, Answers}
-use Rattle.ck_epoch.specs.Client.{program}
-use Rattle.ck_epoch.specs.Ends.{IsInRun, IsWriting}
-use Rattle.ck_epoch.specs.Scan.{IsScanning, Did}
-use Rattle.ck_epoch.specs.Calls.{MayFollow, Polls, gone, kept, count_of, epoch_after}
+use Rattle.std.proofs.Common.{◌≡◌, ℕ, ◌+◌, ◌-◌, ◌%◌, List, ◌++◌, length, ◌∙◌, sym, ap, subst}
+use Rattle.ck_run.specs.Tokens.{table, origin}
+use Rattle.ck_epoch.specs.declared.item.Retired.{Retired}
+use Rattle.ck_epoch.specs.State.{Token, queue, off_list, state}
+use Rattle.ck_epoch.specs.Lists.{Backlog, on, off, by_list}
+use Rattle.ck_epoch.specs.Ends.{Writer}
+use Rattle.ck_epoch.proofs.Polled.{config_is, left_retired, left_queue, rest_retired, rest_queue, writer_after, calls_after, kept_one, kept_two, count_all}
 use Rattle.ck_epoch.proofs.domain.Domain.poll.Goals as goal
 
--- src/writing.rt:179:21
 pub dispatch_all-rest-requires-clause-retired : goal.dispatch_all-rest-requires-clause-retired
-dispatch_all-rest-requires-clause-retired g c = ?
+dispatch_all-rest-requires-clause-retired g c =
+    let meaning = g.C.Client.meaning in
+    let token_is = ap (λ (v : Writer g.row.C.Denot g.row.F.Denot). v.token) c.writer.view_is in
+    let config = config_is c.writer.inside.token c.self.inside.words c.args.self.now c.self.inside.about (ap table token_is ∙ c.requires.table) c.self.view_is c.self.invariant.told in
+    left_retired meaning c.writer.inside.token c.writer.inside.backlog c.writer.invariant.0 c.self.inside.about config _ c.dispatch_list-before.new.self c.dispatch_list-before.ensures.backlog
 
--- src/writing.rt:180:34
-pub overflow_add-result : goal.overflow_add-result
-overflow_add-result g c = ?
-
--- src/writing.rt:183:21
 pub dispatch_list-rest-requires-clause-retired : goal.dispatch_list-rest-requires-clause-retired
-dispatch_list-rest-requires-clause-retired g c = ?
+dispatch_list-rest-requires-clause-retired g c =
+    let meaning = g.C.Client.meaning in
+    let token_is = ap (λ (v : Writer g.row.C.Denot g.row.F.Denot). v.token) c.writer.view_is in
+    let config = config_is c.writer.inside.token c.self.inside.words c.args.self.now c.self.inside.about (ap table token_is ∙ c.requires.table) c.self.view_is c.self.invariant.told in
+    left_retired meaning c.writer.inside.token c.writer.inside.backlog c.writer.invariant.0 c.self.inside.about config _ c.dispatch_list-before.new.self c.dispatch_list-before.ensures.backlog
 
--- src/writing.rt:187:24
-pub overflow_add-result-in-Current : goal.overflow_add-result-in-Current
-overflow_add-result-in-Current g c = ?
-
--- src/writing.rt:186:17
 pub invariant_of-writer-in-Current : goal.invariant_of-writer-in-Current
-invariant_of-writer-in-Current g c = ?
+invariant_of-writer-in-Current g c =
+    let meaning = g.C.Client.meaning in
+    let t = c.writer.inside.token in let b = c.writer.inside.backlog in let inv = c.writer.invariant.0 in let about = c.self.inside.about in
+    let token_is = ap (λ (v : Writer g.row.C.Denot g.row.F.Denot). v.token) c.writer.view_is in
+    let config = config_is t c.self.inside.words c.args.self.now about (ap table token_is ∙ c.requires.table) c.self.view_is c.self.invariant.told in
+    let did = c.in-Current.ensures.outcome t c.start_poll-epoch.ensures.scanning in
+    let left = c.dispatch_list-before.ensures.backlog in let rest = c.dispatch_list-rest.ensures.backlog in (
+      writer_after meaning t b inv about config c.scan.new.token _ _ c.dispatch_list-rest.new.self did.1 (ap (λ (x : Token g.row.C.Denot). (origin x).config) did.0.steps ∙ config)
+      (rest_queue meaning t b inv about config _ c.dispatch_list-before.new.self left _ c.dispatch_list-rest.new.self rest)
+      (rest_retired meaning t b inv about config _ c.dispatch_list-before.new.self left _ c.dispatch_list-rest.new.self rest),
+      calls_after meaning t b inv about config c.scan.new.token _ c.writer.inside.calls _ did.1 c.writer.invariant.1,
+    )
 
--- src/writing.rt:191:44
 pub invariant_of-writer-in-Behind : goal.invariant_of-writer-in-Behind
-invariant_of-writer-in-Behind g c = ?
+invariant_of-writer-in-Behind g c =
+    let meaning = g.C.Client.meaning in
+    let t = c.writer.inside.token in let b = c.writer.inside.backlog in let inv = c.writer.invariant.0 in let about = c.self.inside.about in
+    let token_is = ap (λ (v : Writer g.row.C.Denot g.row.F.Denot). v.token) c.writer.view_is in
+    let config = config_is t c.self.inside.words c.args.self.now about (ap table token_is ∙ c.requires.table) c.self.view_is c.self.invariant.told in
+    let did = c.in-Behind.ensures.outcome t c.start_poll-epoch.ensures.scanning in
+    let left = c.dispatch_list-before.ensures.backlog in (
+      writer_after meaning t b inv about config c.scan.new.token _ _ c.dispatch_list-before.new.self did.1 (ap (λ (x : Token g.row.C.Denot). (origin x).config) did.0.steps ∙ config)
+      (left_queue meaning t b inv about config _ c.dispatch_list-before.new.self left)
+      (left_retired meaning t b inv about config _ c.dispatch_list-before.new.self left),
+      calls_after meaning t b inv about config c.scan.new.token _ c.writer.inside.calls _ did.1 c.writer.invariant.1,
+    )
 
--- src/writing.rt:158:5
 pub returns-in-Clear-clause-count : goal.returns-in-Clear-clause-count
-returns-in-Clear-clause-count g c = ?
+returns-in-Clear-clause-count g c =
+    let t = c.writer.inside.token in let b = c.writer.inside.backlog in let left : Backlog = c.dispatch_list-before.new.self in
+    let e = c.start_poll-epoch.result in
+    let list = (e - 2) % 4 in
+    count_all c.dispatch_list-before.result c.dispatch_all-rest.result (on list b.pending) left.pending c.dispatch_list-before.ensures.count c.dispatch_all-rest.ensures.count
+    ∙ (ap (λ (x : Backlog). length (on list b.pending ++ by_list x.pending)) c.dispatch_list-before.ensures.backlog
+    ∙ (ap (λ (xs : List Retired). length (on list xs ++ by_list (off list xs))) c.writer.invariant.0.pending
+    ∙ (ap (λ (n : ℕ). length (on ((n - 2) % 4) (queue (state t).pending) ++ by_list (off ((n - 2) % 4) (queue (state t).pending)))) (sym c.start_poll-epoch.ensures.scanning.epoch.0)
+    ∙ ap (λ (v : Writer g.row.C.Denot g.row.F.Denot). length (on (((state v.token).epoch - 2) % 4) (queue (state v.token).pending) ++ by_list (off (((state v.token).epoch - 2) % 4) (queue (state v.token).pending)))) c.writer.view_is)))
 
--- src/writing.rt:158:5
 pub returns-in-Current-clause-pending : goal.returns-in-Current-clause-pending
-returns-in-Current-clause-pending g c = ?
+returns-in-Current-clause-pending g c =
+    let t = c.writer.inside.token in
+    let scanning = c.start_poll-epoch.ensures.scanning in
+    let did = c.in-Current.ensures.outcome t scanning in
+    ap queue did.1.pending_is ∙ (kept_two c.start_poll-epoch.result (state t).pending
+    ∙ (ap (λ (e : ℕ). off ((e - 1) % 4) (off ((e - 2) % 4) (queue (state t).pending))) (sym scanning.epoch.0)
+    ∙ ap (λ (v : Writer g.row.C.Denot g.row.F.Denot). off (((state v.token).epoch - 1) % 4) (off (((state v.token).epoch - 2) % 4) (queue (state v.token).pending))) c.writer.view_is))
 
--- src/writing.rt:158:5
 pub returns-in-Behind-clause-pending : goal.returns-in-Behind-clause-pending
-returns-in-Behind-clause-pending g c = ?
+returns-in-Behind-clause-pending g c =
+    let t = c.writer.inside.token in
+    let scanning = c.start_poll-epoch.ensures.scanning in
+    let did = c.in-Behind.ensures.outcome t scanning in
+    ap queue did.1.pending_is ∙ (kept_one c.start_poll-epoch.result (state t).pending
+    ∙ (ap (λ (e : ℕ). off ((e - 2) % 4) (queue (state t).pending)) (sym scanning.epoch.0)
+    ∙ ap (λ (v : Writer g.row.C.Denot g.row.F.Denot). off (((state v.token).epoch - 2) % 4) (queue (state v.token).pending)) c.writer.view_is))

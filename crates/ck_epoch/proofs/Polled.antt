@@ -1,0 +1,64 @@
+-- What a poll leaves of the writer's queue.
+use Rattle.std.proofs.Common.{◌≡◌, ℕ, ◌+◌, ◌-◌, ◌%◌, ◌<◌, ◌≤◌, Bool, List, [], ◌++◌, length, length-append, sym, ap, ◌∙◌, subst, refl, arith}
+use Rattle.ck_words.specs.declared.back.Back.{Back}
+use Rattle.ck_run.specs.Tokens.{Table, table, origin}
+use Rattle.ck_epoch.specs.declared.about.About.{About}
+use Rattle.ck_epoch.specs.declared.item.Item.{Item}
+use Rattle.ck_epoch.specs.declared.item.Retired.{Retired}
+use Rattle.ck_epoch.specs.State.{Origin, Token, Retirement, off_list, queue, state}
+use Rattle.ck_epoch.specs.Lists.{Backlog, on, off, by_list, answered, AreRetired}
+use Rattle.ck_epoch.specs.Client.{Client}
+use Rattle.ck_epoch.specs.Ends.{IsWriter}
+use Rattle.ck_epoch.specs.Scan.{IsDone}
+use Rattle.ck_epoch.proofs.FourLists.{one, still_retired, length_by_list, queue_off}
+
+-- the token's domain is the one that keeps this
+pub config_is : {C : Type 0} (t : Token C) (d now : Table (About C)) (about : About C) → table t ≡ now → d ≡ now → d.origin.config ≡ about → (origin t).config ≡ about
+config_is t d now about same keeps told = ap (λ (x : Table (About _)). x.origin.config) (same ∙ sym keeps) ∙ told
+
+module _ {C : Type 0} (client : Client C) (t : Token C) (b : Backlog) (inv : IsWriter client t b) (about : About C) (config : (origin t).config ≡ about) where
+  abbrev pub retires : Item → Bool
+  retires = client.retires about.client
+
+  were_retired : AreRetired retires b.pending
+  were_retired = subst (λ (a : About C). AreRetired (client.retires a.client) b.pending) config inv.retired
+
+  -- after one list was dispatched
+  module _ (list : ℕ) (b' : Backlog) (is : b' ≡ one (client.home about.client) list b) where
+    pub left_retired : AreRetired retires b'.pending
+    left_retired = still_retired (client.home about.client) retires list b b' is were_retired
+
+    pub left_queue : b'.pending ≡ queue (off_list list (state t).pending)
+    left_queue = ap (λ (x : Backlog). x.pending) is ∙ (ap (off list) inv.pending ∙ sym (queue_off list (state t).pending))
+
+    -- and then another
+    module _ (list' : ℕ) (b'' : Backlog) (is' : b'' ≡ one (client.home about.client) list' b') where
+      pub rest_retired : AreRetired retires b''.pending
+      rest_retired = still_retired (client.home about.client) retires list' b' b'' is' left_retired
+
+      pub rest_queue : b''.pending ≡ queue (off_list list' (off_list list (state t).pending))
+      rest_queue = ap (λ (x : Backlog). x.pending) is' ∙ (ap (off list') left_queue ∙ sym (queue_off list' (off_list list (state t).pending)))
+
+  -- the writer between two calls, with what is left
+  pub writer_after : (u : Token C) (e : ℕ) (ks : List Retirement) (b' : Backlog) → IsDone client t u e ks → (origin u).config ≡ about → b'.pending ≡ queue ks → AreRetired retires b'.pending → IsWriter client u b'
+  writer_after u e ks b' done same pending retired = record {
+    part = done.part;
+    first = done.first;
+    stage = done.stage;
+    pending = pending ∙ ap queue (sym done.pending_is);
+    retired = subst (λ (a : About C). AreRetired (client.retires a.client) b'.pending) (sym same) retired;
+  }
+
+  pub calls_after : (u : Token C) (e calls : ℕ) (ks : List Retirement) → IsDone client t u e ks → (state t).calls ≤ calls → (state u).calls ≤ calls + 1
+  calls_after u e calls ks done few = let z = done.calls in omega arith
+
+-- what stays pending, as the account tells it
+pub kept_one : (e : ℕ) (ks : List Retirement) → queue (off_list ((e - 2) % 4) ks) ≡ off ((e - 2) % 4) (queue ks)
+kept_one e ks = queue_off ((e - 2) % 4) ks
+
+pub kept_two : (e : ℕ) (ks : List Retirement) → queue (off_list ((e - 1) % 4) (off_list ((e - 2) % 4) ks)) ≡ off ((e - 1) % 4) (off ((e - 2) % 4) (queue ks))
+kept_two e ks = queue_off ((e - 1) % 4) (off_list ((e - 2) % 4) ks) ∙ ap (off ((e - 1) % 4)) (kept_one e ks)
+
+-- one list and then all others
+pub count_all : (m n : ℕ) (xs ys : List Retired) → m ≡ length xs → n ≡ length ys → m + n ≡ length (xs ++ by_list ys)
+count_all m n xs ys a b = let c = length-append xs (by_list ys) in let d = length_by_list ys in omega arith
