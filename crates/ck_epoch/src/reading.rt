@@ -91,6 +91,7 @@ impl<C: Client> Domain<C> {
         requires section { C.meaning.guarded self.now.origin.config.client at ≡ true → 0 < depth pass.old.token }
         requires client { IsReading C.meaning pass.old.token → (n : ℕ) → n < 2 ^ 64 → MayFollow C.meaning pass.old.token (entry O.opens (Load (base_of self.now.origin + at) n)) }
         ensures step { pass.new ≡ record pass.old { token = adding pass.old.token (entry O.opens (Load (base_of self.now.origin + at) result) ∷ []) } }
+        ensures depth { depth pass.new.token ≡ depth pass.old.token }
         ensures part { IsInRun C.meaning pass.new.token }
     {
         let word = base_word(self.about.records) + at as usize;
@@ -103,6 +104,7 @@ impl<C: Client> Domain<C> {
         requires word { at < C.meaning.size self.now.origin.config.client }
         requires client { IsReading C.meaning pass.old.token → MayFollow C.meaning pass.old.token (entry O.opens (Store (base_of self.now.origin + at) value)) }
         ensures step { pass.new ≡ record pass.old { token = adding pass.old.token (entry O.opens (Store (base_of self.now.origin + at) value) ∷ []) } }
+        ensures depth { depth pass.new.token ≡ depth pass.old.token }
         ensures part { IsInRun C.meaning pass.new.token }
     {
         let word = base_word(self.about.records) + at as usize;

@@ -1,38 +1,41 @@
-use crate::{Client, Domain, Item, Poll, Within};
+ghost use Rattle.std.specs.Prelude.{◌≡◌, ◌+◌, ◌<◌, ◌≤◌, ◌^◌, ◌==◌, true, length};
+ghost use Rattle.ck_run.specs.Tokens.{table};
+ghost use Rattle.ck_words.specs.declared.back.Back.{Back as BackOf};
+ghost use Rattle.ck_epoch.specs.declared.item.Item.{Item as ItemOf};
+ghost use Rattle.ck_epoch.specs.State.{state, depth};
+ghost use Rattle.ck_epoch.specs.Lists.{Answers};
+
+use crate::{Client, Domain, Item, Pass, Poll, Within, Writer};
 use ck_words::Back;
 use std::marker::Brand;
+use std::sync::Wait;
 use std::test::Fail;
+use std::thread::join_mut;
 
-// One word that the writer counts up, and items that go back to the blocks.
+// One word that the writer alone stores, and that readers load within a section. Its items are blocks.
 #[derive(Drop)]
 struct Counter;
 
 impl Client for Counter {
-    ghost use Rattle.std.specs.Prelude.{ℕ, ◌+◌, ◌==◌, true, [], ◌∷◌};
-    ghost use Rattle.std.proofs.Common.{le_refl};
+    ghost use Rattle.std.specs.Prelude.{◌≡◌, ℕ, ◌+◌, ◌<◌, ◌==◌, true, List, [], ◌∷◌, All};
+    ghost use Rattle.std.proofs.Common.{le_refl, subst, sym};
+    ghost use Rattle.std.proofs.lemmas.List.Elements.{All-nil};
     ghost use Rattle.ck_run.specs.declared.account.Entry.{Entry};
+    ghost use Rattle.ck_run.specs.declared.account.Step.TheVariants.{Load};
     ghost use Rattle.ck_run.specs.Range.{own};
-    ghost use Rattle.ck_run.proofs.Own.{own-append};
+    ghost use Rattle.ck_run.proofs.Own.{own-append, own_outside};
 
     ghost meaning = { record {
         size = λ c. 1;
         first = λ c at. 0;
         guarded = λ c at. true;
-        follows = λ first origin n es. Unit {0};
+        follows = λ first origin n es. 0 < n → All (λ (e : Entry). (found : ℕ) × (e.step ≡ Load first found)) (own first (first + 1) es);
         retires = λ c item. item.log == 3;
         home = λ c item. record { shelf = 1; at = item.at; log = item.log };
         Update = Entry;
         log = λ first origin es. own first (first + 1) es;
         answered = λ first origin es. 0;
     } };
-
-    ghost starts = { λ first origin placed n. tt };
-
-    ghost passes = { λ first origin n es e follows others. tt };
-
-    ghost grows = { λ first origin es e. (own first (first + 1) (e ∷ []), own-append first (first + 1) es (e ∷ [])) };
-
-    ghost rises = { λ first origin es e. le_refl 0 };
 
     fn words(&self) -> u64 {
         1
@@ -41,6 +44,15 @@ impl Client for Counter {
     fn first(&self, _at: u64) -> u64 {
         0
     }
+
+    ghost starts = { λ first origin placed n other. All-nil (λ (e : Entry). (found : ℕ) × (e.step ≡ Load first found)) };
+
+    ghost passes = { λ first origin n es e follows others other.
+        subst (All (λ (x : Entry). (found : ℕ) × (x.step ≡ Load first found))) (sym (own_outside first (first + 1) es e others.0)) (follows other) };
+
+    ghost grows = { λ first origin es e. (own first (first + 1) (e ∷ []), own-append first (first + 1) es (e ∷ [])) };
+
+    ghost rises = { λ first origin es e. le_refl 0 };
 }
 
 impl Within<Counter> for Counter {
@@ -61,30 +73,63 @@ impl Within<Counter> for Counter {
     ghost within = { itself Self.meaning };
 }
 
-fn home(item: Item) -> Back {
+fn home(item: Item) -> Back
+    ensures { result ≡ record { shelf = 1; at = item.at; log = item.log } }
+{
     Back {
-        shelf: 1,
+        shelf: Back::BLOCKS,
         at: item.at,
         log: item.log,
     }
 }
 
+const BLOCK: Item = Item { at: 8, log: 3 };
+
 #[test]
-fn gives_back_after_the_older_section(rt: HostRuntime) -> Result<(), Fail> {
-    let (domain, mut writer, mut passes) = Domain::new(rt.alloc(), Counter, 1, 4, |item: Item| home(item))?;
+fn gives_back_once_the_older_section_ended(rt: HostRuntime) -> Result<(), Fail> {
+    let (domain, mut writer, mut passes) =
+        Domain::new(rt.alloc(), Counter, 1, 4, |item: Item| home(item))?;
     let mut pass = passes.pop().unwrap();
     domain.begin(&mut pass);
-    domain.call::<Brand, _>(&mut writer, Item { at: 0, log: 3 });
-    let moved = domain.poll(&mut writer);
-    let blocked = domain.poll(&mut writer);
+    domain.call::<Brand, _>(&mut writer, BLOCK);
+    assert_eq!(rt; domain.poll(&mut writer), Poll::Moved { n: 0, rec: 0 });
+    assert_eq!(rt; domain.poll(&mut writer), Poll::Blocked { n: 0, rec: 0, epoch: 4 });
     domain.end(&mut pass);
-    let clear = domain.poll(&mut writer);
-    let back = domain.next_back(&mut writer);
-    let none = domain.next_back(&mut writer);
-    assert_eq!(rt; moved, Poll::Moved { n: 0, rec: 0 });
-    assert_eq!(rt; blocked, Poll::Blocked { n: 0, rec: 0, epoch: 4 });
-    assert_eq!(rt; clear, Poll::Clear { n: 1 });
-    assert_eq!(rt; back, Some(home(Item { at: 0, log: 3 })));
-    assert_eq!(rt; none, None);
+    assert_eq!(rt; domain.poll(&mut writer), Poll::Clear { n: 1 });
+    assert_eq!(rt; (writer.pending(), writer.waiting()), (0, 1));
+    assert_eq!(rt; domain.next_back(&mut writer), Some(home(BLOCK)));
+    assert_eq!(rt; domain.next_back(&mut writer), None);
+    Ok(())
+}
+
+#[test]
+fn waits_for_the_outermost_section(rt: HostRuntime) -> Result<(), Fail> {
+    let (domain, mut writer, mut passes) =
+        Domain::new(rt.alloc(), Counter, 1, 4, |item: Item| home(item))?;
+    let mut pass = passes.pop().unwrap();
+    domain.begin(&mut pass);
+    domain.begin(&mut pass);
+    domain.call::<Brand, _>(&mut writer, BLOCK);
+    assert_eq!(rt; domain.poll(&mut writer), Poll::Moved { n: 0, rec: 0 });
+    assert_eq!(rt; domain.poll(&mut writer), Poll::Blocked { n: 0, rec: 0, epoch: 4 });
+    domain.end(&mut pass);
+    assert_eq!(rt; (pass.rec(), pass.depth(), pass.calls()), (0, 1, 3));
+    assert_eq!(rt; domain.poll(&mut writer), Poll::Blocked { n: 0, rec: 0, epoch: 4 });
+    Ok(())
+}
+
+#[test]
+fn gives_back_beside_a_younger_section(rt: HostRuntime) -> Result<(), Fail> {
+    let (domain, mut writer, mut passes) =
+        Domain::new(rt.alloc(), Counter, 1, 4, |item: Item| home(item))?;
+    let mut pass = passes.pop().unwrap();
+    domain.begin(&mut pass);
+    domain.call::<Brand, _>(&mut writer, BLOCK);
+    assert_eq!(rt; domain.poll(&mut writer), Poll::Moved { n: 0, rec: 0 });
+    domain.end(&mut pass);
+    domain.begin(&mut pass);
+    assert_eq!(rt; domain.poll(&mut writer), Poll::Moved { n: 1, rec: 0 });
+    writer.set_tally(7);
+    assert_eq!(rt; (writer.tally(), writer.calls()), (7, 4));
     Ok(())
 }

@@ -30,6 +30,7 @@ impl<C: Client> Domain<C> {
         requires word { at < C.meaning.size self.now.origin.config.client }
         requires client { IsWriting C.meaning writer.old.token → (n : ℕ) → n < 2 ^ 64 → MayFollow C.meaning writer.old.token (entry O.opens (Load (base_of self.now.origin + at) n)) }
         ensures step { writer.new ≡ record writer.old { token = adding writer.old.token (entry O.opens (Load (base_of self.now.origin + at) result) ∷ []) } }
+        ensures same { ((state writer.new.token).pending ≡ (state writer.old.token).pending) × ((state writer.new.token).epoch ≡ (state writer.old.token).epoch) }
         ensures part { IsInRun C.meaning writer.new.token }
     {
         let word = base_word(self.about.records) + at as usize;
@@ -42,6 +43,7 @@ impl<C: Client> Domain<C> {
         requires word { at < C.meaning.size self.now.origin.config.client }
         requires client { IsWriting C.meaning writer.old.token → MayFollow C.meaning writer.old.token (entry O.opens (Store (base_of self.now.origin + at) value)) }
         ensures step { writer.new ≡ record writer.old { token = adding writer.old.token (entry O.opens (Store (base_of self.now.origin + at) value) ∷ []) } }
+        ensures same { ((state writer.new.token).pending ≡ (state writer.old.token).pending) × ((state writer.new.token).epoch ≡ (state writer.old.token).epoch) }
         ensures part { IsInRun C.meaning writer.new.token }
     {
         let word = base_word(self.about.records) + at as usize;
