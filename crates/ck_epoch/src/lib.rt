@@ -16,6 +16,8 @@ mod reading;
 #[cfg(test)]
 mod tests;
 mod waiting;
+#[cfg(test)]
+mod waiting_tests;
 mod writing;
 
 pub use about::About;

@@ -14,7 +14,7 @@ use std::thread::join_mut;
 
 // One word that the writer alone stores, and that readers load within a section. Its items are blocks.
 #[derive(Drop)]
-struct Counter;
+pub(crate) struct Counter;
 
 impl Client for Counter {
     ghost use Rattle.std.specs.Prelude.{◌≡◌, ℕ, ◌+◌, ◌<◌, ◌==◌, true, List, [], ◌∷◌, All};
@@ -73,7 +73,7 @@ impl Within<Counter> for Counter {
     ghost within = { itself Self.meaning };
 }
 
-fn home(item: Item) -> Back
+pub(crate) fn home(item: Item) -> Back
     ensures { result ≡ record { shelf = 1; at = item.at; log = item.log } }
 {
     Back {

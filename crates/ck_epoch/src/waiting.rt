@@ -72,10 +72,10 @@ impl<C: Client> Domain<C> {
         ensures state { (all : Bool) → O.opens ≡ name_of all ∷ [] → state token.new ≡ after_rounds all (state token.old) (state token.new).steps }
         ensures part { IsInRun C.meaning token.new }
     {
-        let epoch = self.words.load::<O>(token, GLOBAL);
-        self.round(rt, token, epoch);
-        let epoch = self.words.load::<Continues>(token, GLOBAL);
-        self.round(rt, token, epoch);
+        let first = self.words.load::<O>(token, GLOBAL);
+        self.round(rt, token, first);
+        let second = self.words.load::<Continues>(token, GLOBAL);
+        self.round(rt, token, second);
     }
 
     /// Waits until every section has ended that was open at the call, as `ck_epoch_synchronize`.

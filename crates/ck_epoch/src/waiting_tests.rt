@@ -1,0 +1,81 @@
+ghost use Rattle.std.specs.Prelude.{◌≡◌, ◌<◌, ◌^◌, length};
+ghost use Rattle.ck_run.specs.Tokens.{table};
+ghost use Rattle.ck_epoch.specs.State.{state, depth};
+
+use crate::tests::{Counter, home};
+use crate::{Domain, Item, Pass, Poll, Writer};
+use ck_words::Back;
+use std::marker::Brand;
+use std::sync::Wait;
+use std::sync::atomic::AtomicU64;
+use std::sync::atomic::Ordering::SeqCst;
+use std::test::Fail;
+use std::thread::join_mut;
+
+#[test]
+fn barrier_gives_back_what_is_pending(rt: HostRuntime) -> Result<(), Fail> {
+    let (domain, mut writer, mut passes) = Domain::new(rt.alloc(), Counter, 1, 4, |item: Item| home(item))?;
+    let mut pass = passes.pop().unwrap();
+    domain.call::<Brand, _>(&mut writer, Item { at: 8, log: 3 });
+    let count = domain.barrier(&rt, &mut writer);
+    let back = domain.next_back(&mut writer);
+    let none = domain.next_back(&mut writer);
+    domain.begin(&mut pass);
+    domain.call::<Brand, _>(&mut writer, Item { at: 16, log: 3 });
+    let moved = domain.poll(&mut writer);
+    let blocked = domain.poll(&mut writer);
+    assert_eq!(rt; count, 1);
+    assert_eq!(rt; back, Some(home(Item { at: 8, log: 3 })));
+    assert_eq!(rt; none, None);
+    assert_eq!(rt; moved, Poll::Moved { n: 0, rec: 0 });
+    assert_eq!(rt; blocked, Poll::Blocked { n: 0, rec: 0, epoch: 6 });
+    Ok(())
+}
+
+// Holds a section open for a while, and tells when it is about to end it.
+fn hold_open(domain: &Domain<Counter>, pass: &mut Pass<Counter>, inside: &AtomicU64, over: &AtomicU64)
+    requires table { table pass.old.token ≡ domain.now }
+    requires closed { (depth pass.old.token ≡ 0) × (pass.old.calls < 2 ^ 16) }
+{
+    domain.begin(pass);
+    inside.store(1, SeqCst);
+    for _ in 0..20_000u64 {
+        let _inside = inside.load(SeqCst);
+    }
+    over.store(1, SeqCst);
+    domain.end(pass);
+}
+
+// Retires an item once the section is open, and takes it back. Was the section over by then?
+fn give_back<R: Wait, F: Fn(Item) -> Back>(
+    rt: &R,
+    domain: &Domain<Counter>,
+    writer: &mut Writer<Counter, F>,
+    inside: &AtomicU64,
+    over: &AtomicU64,
+) -> (u64, Option<Back>, u64) {
+    for _ in rt.forever() {
+        if inside.load(SeqCst) == 1 {
+            break;
+        }
+    }
+    domain.call::<Brand, _>(writer, Item { at: 8, log: 3 });
+    let count = domain.barrier(rt, writer);
+    let ended = over.load(SeqCst);
+    (count, domain.next_back(writer), ended)
+}
+
+#[test]
+fn barrier_waits_for_the_open_section(rt: HostRuntime) -> Result<(), Fail> {
+    let (domain, mut writer, mut passes) = Domain::new(rt.alloc(), Counter, 1, 4, |item: Item| home(item))?;
+    let mut pass = passes.pop().unwrap();
+    let inside = AtomicU64::new(0);
+    let over = AtomicU64::new(0);
+    let (_, given) = join_mut(
+        &rt,
+        &mut || hold_open(&domain, &mut pass, &inside, &over),
+        &mut || give_back(&rt, &domain, &mut writer, &inside, &over),
+    );
+    assert_eq!(rt; given, (1, Some(home(Item { at: 8, log: 3 })), 1));
+    Ok(())
+}
