@@ -1,5 +1,5 @@
 -- The log and the answers grow along a run.
-use Rattle.std.proofs.Common.{◌≡◌, ℕ, suc, ◌+◌, ◌≤◌, le_refl, List, [], ◌∷◌, ◌++◌, length, length-append, append-nil, append_assoc, sym, ap, ◌∙◌, subst, arith}
+use Rattle.std.proofs.Common.{◌≡◌, ℕ, suc, ◌≤◌, le_refl, List, [], ◌∷◌, ◌++◌, length, length-append, append-nil, append_assoc, sym, ap, ◌∙◌, subst, arith}
 use Rattle.std.proofs.Math.Nat.{le_trans}
 use Rattle.ck_run.specs.declared.account.Entry.{Entry}
 use Rattle.ck_run.specs.Run.{Run, account}

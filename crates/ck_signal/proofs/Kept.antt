@@ -1,5 +1,5 @@
 -- What the signal words tell is true at opening, and stays true at each step of each token.
-use Rattle.std.proofs.Common.{◌≡◌, ◌≢◌, ℕ, suc, ◌+◌, ◌*◌, ◌<◌, ◌≤◌, le_refl, ◌⊎◌, ⊎_elim, Bool, cond, List, [], ◌∷◌, ◌++◌, length, set, length-set, get_or, get_or-set_same, get_or-set_other, refl, sym, ap, ◌∙◌, subst, arith}
+use Rattle.std.proofs.Common.{◌≡◌, ◌≢◌, ℕ, ◌+◌, ◌<◌, ◌≤◌, le_refl, ◌⊎◌, ⊎_elim, Bool, cond, List, [], ◌∷◌, ◌++◌, length, set, length-set, get_or, get_or-set_same, get_or-set_other, refl, sym, ap, ◌∙◌, subst, arith}
 use Rattle.std.proofs.Math.Nat.{le_trans}
 use Rattle.std.proofs.lemmas.Bool.{cases_lt, le-ltb}
 use mathlib.Core.Logic.{dite}
@@ -107,8 +107,8 @@ module _ {C : Type 0} (client : Client C) (grows : LogGrows client) (rises : Ans
       let told : k ≤ length (log_in client origin past) = subst (λ (i : ℕ). k ≤ length (log_of client (base_of origin) origin (account i past))) m.0 (le_refl k) in
       subst (λ (x : Entry). Keeps (words_after words x.step)) (sym m.1)
       (goes (set words word k) (length-set words word k)
-        (subst (λ (z : ℕ). z ≤ length (log_in client origin past)) (sym (get_or-set_same words word k 0 (let wide = h.wide in omega arith))) told)
-        (λ r few. subst (λ (z : ℕ). z ≤ answers_in client origin past r) (sym (get_or-set_other words word (answered client origin r) k 0 (omega arith))) (h.told.answers r few)))
+      (subst (λ (z : ℕ). z ≤ length (log_in client origin past)) (sym (get_or-set_same words word k 0 (let wide = h.wide in omega arith))) told)
+      (λ r few. subst (λ (z : ℕ). z ≤ answers_in client origin past r) (sym (get_or-set_other words word (answered client origin r) k 0 (omega arith))) (h.told.answers r few)))
 
   noted : IsNote client (base_of origin) origin a e → Keeps (words_after words e.step)
   noted m =
@@ -119,22 +119,22 @@ module _ {C : Type 0} (client : Client C) (grows : LogGrows client) (rises : Ans
       let here : get_or (set words word k) word 0 ≡ k = get_or-set_same words word k 0 (let wide = h.wide in let few = m.2 in omega arith) in
       subst (λ (x : Entry). Keeps (words_after words x.step)) (sym m.3)
       (goes (set words word k) (length-set words word k)
-        (subst (λ (z : ℕ). z ≤ length (log_in client origin past)) (sym (get_or-set_other words word (applied client origin) k 0 (omega arith))) h.told.updates)
-        (λ q few. dite (ℕ_discrete r q)
-          (λ (same : r ≡ q). subst (λ (i : ℕ). get_or (set words word k) (answered client origin i) 0 ≤ answers_in client origin past i) same (subst (λ (z : ℕ). z ≤ answers_in client origin past r) (sym here) told))
-          (λ (other : r ≢ q). subst (λ (z : ℕ). z ≤ answers_in client origin past q) (sym (get_or-set_other words word (answered client origin q) k 0 (λ is. other (omega arith)))) (h.told.answers q few))))
+      (subst (λ (z : ℕ). z ≤ length (log_in client origin past)) (sym (get_or-set_other words word (applied client origin) k 0 (omega arith))) h.told.updates)
+      (λ q few. dite (ℕ_discrete r q)
+      (λ (same : r ≡ q). subst (λ (i : ℕ). get_or (set words word k) (answered client origin i) 0 ≤ answers_in client origin past i) same (subst (λ (z : ℕ). z ≤ answers_in client origin past r) (sym here) told))
+      (λ (other : r ≢ q). subst (λ (z : ℕ). z ≤ answers_in client origin past q) (sym (get_or-set_other words word (answered client origin q) k 0 (λ is. other (omega arith)))) (h.told.answers q few))))
 
   signalled : IsMark client (base_of origin) origin a e ⊎ (IsReached client (base_of origin) origin a e ⊎ (IsNote client (base_of origin) origin a e ⊎ IsAnswered client (base_of origin) origin a e))
       → Keeps (words_after words e.step)
   signalled c = ⊎_elim marked
       (λ c. ⊎_elim (λ (m : IsReached client (base_of origin) origin a e). loads (applied client origin) m.1 (ap (λ (x : Entry). x.step) m.3))
-        (λ c. ⊎_elim noted (λ (m : IsAnswered client (base_of origin) origin a e). loads (answered client origin m.0) m.1 (ap (λ (x : Entry). x.step) m.4)) c) c) c
+      (λ c. ⊎_elim noted (λ (m : IsAnswered client (base_of origin) origin a e). loads (answered client origin m.0) m.1 (ap (λ (x : Entry). x.step) m.4)) c) c) c
 
   each_keeps : MaySignal client (base_of origin) origin a e → Keeps (words_after words e.step)
   each_keeps may = ⊎_elim
       (λ (below : word_of e.step < low client origin). elsewhere (λ s. let from = s.0 in omega arith))
       (λ (from : low client origin ≤ word_of e.step). ⊎_elim (λ (to : word_of e.step < high client origin). signalled (may (from, to)))
-        (λ (past : high client origin ≤ word_of e.step). elsewhere (λ s. let to = s.1 in omega arith)) (cases_lt (word_of e.step) (high client origin)))
+      (λ (past : high client origin ≤ word_of e.step). elsewhere (λ s. let to = s.1 in omega arith)) (cases_lt (word_of e.step) (high client origin)))
       (cases_lt (word_of e.step) (low client origin))
 
 pub keeps : {C : Type 0} (client : Client C) → LogGrows client → AnsweredRises client → (origin : Origin (Signals C))

@@ -1,5 +1,5 @@
 -- The steps of the calls: that the domain allows them, and what they tell.
-use Rattle.std.proofs.Common.{◌≡◌, ℕ, suc, ◌+◌, ◌-◌, ◌*◌, ◌^◌, ◌<◌, ◌≤◌, ◌⊎◌, ⊎_elim, inl, inr, slice_index, List, [], ◌∷◌, ◌++◌, length, append-nil, append_assoc, refl, sym, ap, ◌∙◌, subst, arith}
+use Rattle.std.proofs.Common.{◌≡◌, ℕ, suc, ◌+◌, ◌-◌, ◌<◌, ◌≤◌, ⊎_elim, inl, inr, slice_index, List, [], ◌∷◌, ◌++◌, length, append-nil, append_assoc, sym, ap, ◌∙◌, subst, arith}
 use Rattle.std.proofs.Math.Nat.{le_trans}
 use Rattle.ck_run.specs.declared.account.Account.{Account}
 use Rattle.ck_run.specs.declared.account.Entry.{Entry}
@@ -16,10 +16,10 @@ use Rattle.ck_epoch.specs.declared.about.About.{About}
 use Rattle.ck_epoch.specs.State.{Origin, Token, base_of, records_of}
 use Rattle.ck_epoch.specs.Client.{Client, Passes, LogGrows, AnsweredRises, program}
 use Rattle.ck_epoch.specs.Ends.{IsInRun, IsReading, IsWriting}
-use Rattle.ck_epoch.specs.Calls.{MayFollow, rec_of}
+use Rattle.ck_epoch.specs.Calls.{MayFollow}
 use Rattle.ck_signal.specs.declared.signals.Signals.{Signals}
 use Rattle.ck_signal.specs.Words.{applied_word, answered_word, mark, reached, note, answered as asked, marks, reaches, notes, asks}
-use Rattle.ck_signal.specs.Signals.{inside, readers, grow, own_size, IsMark, IsReached, IsNote, IsAnswered, MaySignal, log_of, signals}
+use Rattle.ck_signal.specs.Signals.{inside, readers, grow, own_size, MaySignal, log_of, signals}
 use Rattle.ck_signal.specs.Told.{applied, answered, log_in, answers_in, IsRunOf, IsPlace, AreBelow, TrueSignals, log, answers, HasSeen, HasBeenTold}
 use Rattle.ck_signal.specs.Laws.{goes_on}
 use Rattle.ck_signal.proofs.Splits.{split}
@@ -142,9 +142,15 @@ module _ {C : Type 0} (client : Client C) where
           places = λ i place few p. subst (λ (es : List Entry). place ≤ length (log_of client (base_of o) o es)) same (b.places i place few (subst (λ (l : Run). IsPlace client o l r i place) whole p));
         }
 
-    pub has_seen : (u : Token (Signals C)) (n found : ℕ) → IsInRun (signals client) u → n ≤ found → u ≡ adding t (reaches (applied client o) n found ∷ []) → HasSeen client u n
-    has_seen u n found part enough step = subst (λ (x : Token (Signals C)). HasSeen client x n) (sym step) (seen_then n found (subst (λ (x : Token (Signals C)). IsInRun (signals client) x) step part) enough)
+    pub has_seen : (u : Token (Signals C)) (d : Table (About (Signals C))) (n found : ℕ) → table t ≡ d → IsInRun (signals client) u → n ≤ found → u ≡ adding t (reaches (applied client d.origin) n found ∷ [])
+        → HasSeen client u n
+    has_seen u d n found same part enough made =
+        let step = subst (λ (x : Table (About (Signals C))). u ≡ adding t (reaches (applied client x.origin) n found ∷ [])) (sym same) made in
+        subst (λ (x : Token (Signals C)). HasSeen client x n) (sym step) (seen_then n found (subst (IsInRun (signals client)) step part) enough)
 
-    pub has_been_told : (u : Token (Signals C)) (r k : ℕ) → r < readers o → IsInRun (signals client) u → u ≡ adding t (asks (answered client o r) r k ∷ []) → HasBeenTold client u r k (length (log client t))
-    has_been_told u r k low part step = subst (λ (x : Token (Signals C)). HasBeenTold client x r k (length (log client t))) (sym step)
-        (told_then r k low (subst (λ (x : Token (Signals C)). IsInRun (signals client) x) step part))
+    pub has_been_told : (u : Token (Signals C)) (d : Table (About (Signals C))) (r k : ℕ) → table t ≡ d → r < readers d.origin → IsInRun (signals client) u → u ≡ adding t (asks (answered client d.origin r) r k ∷ [])
+        → HasBeenTold client u r k (length (log client t))
+    has_been_told u d r k same low part made =
+        let step = subst (λ (x : Table (About (Signals C))). u ≡ adding t (asks (answered client x.origin r) r k ∷ [])) (sym same) made in
+        let few = subst (λ (x : Table (About (Signals C))). r < readers x.origin) (sym same) low in
+        subst (λ (x : Token (Signals C)). HasBeenTold client x r k (length (log client t))) (sym step) (told_then r k few (subst (IsInRun (signals client)) step part))

@@ -1,5 +1,5 @@
 -- The law of signals.
-use Rattle.std.proofs.Common.{◌≡◌, ℕ, suc, ◌+◌, ◌<◌, ◌≤◌, ◌⊎◌, ⊎_elim, inl, inr, List, ◌∷◌, ◌++◌, length, take, drop, append_assoc, sym, ap, ◌∙◌, subst, arith}
+use Rattle.std.proofs.Common.{◌≡◌, ℕ, suc, ◌<◌, ◌≤◌, ◌⊎◌, ⊎_elim, inl, inr, List, ◌∷◌, ◌++◌, length, take, drop, append_assoc, sym, ap, ◌∙◌, subst, arith}
 use Rattle.std.proofs.Math.Nat.{le_trans}
 use Rattle.std.proofs.Math.Seq.{take-append_seam}
 use Rattle.std.proofs.lemmas.List.{take-append-le, take-append-drop}
@@ -54,14 +54,14 @@ module _ {C : Type 0} (client : Client C) (grows : LogGrows client) (rises : Ans
       let moment : Run = p.0 in
       subst (λ (k : ℕ). k ≤ length (log_in client origin past)) (sym p.4)
       (⊎_elim
-        (λ (early : length moment ≤ length past).
-          let b = begins moment p.1 past rest (sym p.2) early in
-          subst (λ (l : Run). length (log_in client origin moment) ≤ length (log_in client origin l)) (sym b.1) (longer client grows rises origin moment b.0))
-        (λ (late : length past ≤ length moment).
-          let b = begins past rest moment p.1 p.2 late in
-          let few : answers_in client origin past r ≤ i = le_trans (subst (λ (l : Run). answers_in client origin past r ≤ answers_in client origin l r) (sym b.1) (run_rises client grows rises origin past b.0 r)) p.3 in
-          absurd (omega arith))
-        (cases_le (length moment) (length past)))
+      (λ (early : length moment ≤ length past).
+      let b = begins moment p.1 past rest (sym p.2) early in
+      subst (λ (l : Run). length (log_in client origin moment) ≤ length (log_in client origin l)) (sym b.1) (longer client grows rises origin moment b.0))
+      (λ (late : length past ≤ length moment).
+      let b = begins past rest moment p.1 p.2 late in
+      let few : answers_in client origin past r ≤ i = le_trans (subst (λ (l : Run). answers_in client origin past r ≤ answers_in client origin l r) (sym b.1) (run_rises client grows rises origin past b.0 r)) p.3 in
+      absurd (omega arith))
+      (cases_le (length moment) (length past)))
 
   answered_then : (past rest : Run) (r k : ℕ) → r < readers origin → IsRunOf client origin (past ++ (0, asks (answered client origin r) r k) ∷ rest)
       → AreBelow client origin past (past ++ (0, asks (answered client origin r) r k) ∷ rest) r k (length (log_in client origin past))

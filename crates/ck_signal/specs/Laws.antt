@@ -1,15 +1,15 @@
 -- A client with signals keeps the laws of a client, and what is within the client inside is within it.
-use Rattle.std.proofs.Common.{◌≡◌, ℕ, ◌+◌, ◌<◌, ◌≤◌, ◌⊎◌, ⊎_elim, inl, inr, Bool, ◌&&◌, cond, List, [], ◌∷◌, ◌++◌, ap, ◌∙◌, arith}
+use Rattle.std.proofs.Common.{ℕ, ◌+◌, ◌<◌, ◌≤◌, ⊎_elim, inl, inr, Bool, ◌&&◌, cond, List, [], ◌∷◌, ◌++◌, ap, ◌∙◌, arith}
 use Rattle.std.proofs.lemmas.Bool.{lt-ltb}
 use Rattle.ck_run.specs.declared.account.Entry.{Entry}
 use Rattle.ck_run.specs.Rule.{unused}
-use Rattle.ck_run.specs.Range.{word_of, IsOutside}
+use Rattle.ck_run.specs.Range.{word_of}
 use Rattle.ck_run.proofs.Law.{obeys_append}
 use Rattle.ck_epoch.specs.State.{Origin, base_of}
-use Rattle.ck_epoch.specs.Client.{Client, IsOwn, IsOthers, Starts, Passes, LogGrows, AnsweredRises}
-use Rattle.ck_epoch.specs.Within.{inner_origin, IsWithin}
+use Rattle.ck_epoch.specs.Client.{Client, Starts, Passes, LogGrows, AnsweredRises}
+use Rattle.ck_epoch.specs.Within.{IsWithin}
 use Rattle.ck_signal.specs.declared.signals.Signals.{Signals}
-use Rattle.ck_signal.specs.Signals.{inside, readers, grow, own_size, IsSignal, MaySignal, signals}
+use Rattle.ck_signal.specs.Signals.{inside, grow, own_size, IsSignal, MaySignal, signals}
 
 longer : (place size own records at : ℕ) → at < size → place + size ≤ own → place + at < own
 longer place size own records at low fits = omega arith
@@ -31,11 +31,11 @@ module _ {C : Type 0} (client : Client C) where
   passes h first origin n es e f others =
       let size = own_size client origin in
       goes_on first origin n es e
-          (λ s. ⊎_elim (λ (low : word_of e.step < first). omega arith) (λ (high : first + (signals client).size origin.config.client ≤ word_of e.step). omega arith) others.0) f
-          (h first (inside origin) n es e f.0 (
-            ⊎_elim (λ (low : word_of e.step < first). inl low) (λ (high : first + (signals client).size origin.config.client ≤ word_of e.step). inr (omega arith)) others.0,
-            (λ at log is. ⊎_elim (λ (low : base_of origin + at < first). inl low) (λ (high : first + (signals client).size origin.config.client ≤ base_of origin + at). inr (omega arith)) (others.1 at log is)),
-          ))
+      (λ s. ⊎_elim (λ (low : word_of e.step < first). omega arith) (λ (high : first + (signals client).size origin.config.client ≤ word_of e.step). omega arith) others.0) f
+      (h first (inside origin) n es e f.0 (
+        ⊎_elim (λ (low : word_of e.step < first). inl low) (λ (high : first + (signals client).size origin.config.client ≤ word_of e.step). inr (omega arith)) others.0,
+        (λ at log is. ⊎_elim (λ (low : base_of origin + at < first). inl low) (λ (high : first + (signals client).size origin.config.client ≤ base_of origin + at). inr (omega arith)) (others.1 at log is)),
+      ))
 
   pub grows : LogGrows client → LogGrows (signals client)
   grows h first origin es e = h first (inside origin) es e

@@ -1,7 +1,6 @@
 -- What the signal words tell: of every true run of a domain whose client has signals, and of each moment of it. A moment is the part of
 -- the run that is past.
-use Rattle.std.specs.Prelude.{◌≡◌, ℕ, suc, ◌+◌, ◌<◌, ◌≤◌, List, [], ◌∷◌, ◌++◌, length, slice_index}
-use Rattle.ck_run.specs.declared.account.Entry.{Entry}
+use Rattle.std.specs.Prelude.{◌≡◌, ℕ, suc, ◌<◌, ◌≤◌, List, ◌∷◌, ◌++◌, length, slice_index}
 use Rattle.ck_run.specs.Run.{Run, replay, account}
 use Rattle.ck_run.specs.Rule.{IsRun}
 use Rattle.ck_run.specs.Tokens.{origin, number, did}

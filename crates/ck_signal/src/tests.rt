@@ -22,15 +22,15 @@ impl Client for Counter {
     ghost use Rattle.ck_run.proofs.Own.{own-append};
 
     ghost meaning = { record {
-        size = λ c. 1;
-        first = λ c at. 0;
-        guarded = λ c at. false;
-        follows = λ first origin n es. Unit {0};
-        retires = λ c item. false;
-        home = λ c item. record { shelf = 0; at = item.at; log = item.log };
-        Update = Entry;
-        log = λ first origin es. own first (first + 1) es;
-        answered = λ first origin es. length (own first (first + 1) es);
+      size = λ c. 1;
+      first = λ c at. 0;
+      guarded = λ c at. false;
+      follows = λ first origin n es. Unit {0};
+      retires = λ c item. false;
+      home = λ c item. record { shelf = 0; at = item.at; log = item.log };
+      Update = Entry;
+      log = λ first origin es. own first (first + 1) es;
+      answered = λ first origin es. length (own first (first + 1) es);
     } };
 
     ghost starts = { λ first origin placed n. tt };
@@ -88,7 +88,13 @@ fn home(item: Item) -> Back {
 
 #[test]
 fn tells_nothing_at_first(rt: HostRuntime) -> Result<(), Fail> {
-    let (domain, mut writer, mut passes) = Domain::new(rt.alloc(), Signals::new(Counter, 1), 1, 1, |item: Item| home(item))?;
+    let (domain, mut writer, mut passes) = Domain::new(
+        rt.alloc(),
+        Signals::new(Counter, 1),
+        1,
+        1,
+        |item: Item| home(item),
+    )?;
     let mut pass = passes.pop().unwrap();
     assert_eq!(rt; reached(&domain, &mut pass, 0), Ok(()));
     assert_eq!(rt; reached(&domain, &mut pass, 1), Err(0));
@@ -98,7 +104,13 @@ fn tells_nothing_at_first(rt: HostRuntime) -> Result<(), Fail> {
 
 #[test]
 fn tells_across_threads(rt: HostRuntime) -> Result<(), Fail> {
-    let (domain, mut writer, mut passes) = Domain::new(rt.alloc(), Signals::new(Counter, 1), 1, 1, |item: Item| home(item))?;
+    let (domain, mut writer, mut passes) = Domain::new(
+        rt.alloc(),
+        Signals::new(Counter, 1),
+        1,
+        1,
+        |item: Item| home(item),
+    )?;
     let mut pass = passes.pop().unwrap();
     let (_, found) = join_mut(
         &rt,

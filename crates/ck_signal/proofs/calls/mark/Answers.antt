@@ -1,5 +1,4 @@
 use Rattle.std.proofs.Common.{◌∙◌, ap}
-use Rattle.ck_run.specs.Tokens.{Table}
 use Rattle.ck_signal.specs.Words.{applied_word}
 use Rattle.ck_signal.proofs.Steps.{may_mark}
 use Rattle.ck_signal.proofs.calls.mark.Goals as goal

@@ -1,4 +1,4 @@
-use Rattle.std.proofs.Common.{◌≡◌, ◌+◌, ◌*◌, ◌<◌, ◌∙◌, ap, sym, subst, arith}
+use Rattle.std.proofs.Common.{◌<◌, ◌∙◌, ap, sym, subst, arith}
 use Rattle.ck_signal.specs.Words.{answered_word}
 use Rattle.ck_signal.proofs.Steps.{is_reader, may_note}
 use Rattle.ck_signal.proofs.calls.note.Goals as goal

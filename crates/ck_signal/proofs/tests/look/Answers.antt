@@ -1,4 +1,4 @@
-use Rattle.std.proofs.Common.{◌+◌, ◌<◌, [], arith}
+use Rattle.std.proofs.Common.{arith}
 use Rattle.ck_signal.specs.contracts.tests.CounterClient.TheImpl.{ghosts}
 use Rattle.ck_signal.proofs.Steps.{may_step}
 use Rattle.ck_signal.proofs.tests.look.Goals as goal
