@@ -43,8 +43,8 @@ module _ (list : ℕ) (xs : List Retired) (i : ℕ) (low : i < length xs) (r : R
         ∙ (ap (λ (ys : List Back). ys ++ b ∷ []) before
         ∙ (append_assoc ws (homes home (on list (take i xs))) (b ∷ [])
         ∙ ap (λ (ys : List Back). ws ++ ys)
-            (ap (λ (x : Back). homes home (on list (take i xs)) ++ x ∷ []) answer
-            ∙ sym (ap (homes home) on_is ∙ map-append (λ (x : Retired). home x.item) (on list (take i xs)) (r ∷ [])))))
+        (ap (λ (x : Back). homes home (on list (take i xs)) ++ x ∷ []) answer
+        ∙ sym (ap (homes home) on_is ∙ map-append (λ (x : Retired). home x.item) (on list (take i xs)) (r ∷ [])))))
 
     pub count_on : (n : ℕ) → n ≡ length (on list (take i xs)) → n + 1 ≡ length (on list (take (i + 1) xs))
     count_on n e = ap (λ (k : ℕ). k + 1) e ∙ sym (ap length on_is ∙ length-append (on list (take i xs)) (r ∷ []))
@@ -59,7 +59,7 @@ module _ (list : ℕ) (xs : List Retired) (i : ℕ) (low : i < length xs) (r : R
         ∙ (ap (λ (ys : List Retired). ys ++ r ∷ []) rest_is
         ∙ (append_assoc (drop (i + 1) xs) (off list (take i xs)) (r ∷ [])
         ∙ ap (λ (ys : List Retired). drop (i + 1) xs ++ ys)
-            (sym (ap (off list) taken ∙ filter_snoc (λ (x : Retired). not (is_on list x)) (take i xs) r true (ap not (ne_eqb (r.epoch % 4) list other))))))
+        (sym (ap (off list) taken ∙ filter_snoc (λ (x : Retired). not (is_on list x)) (take i xs) r true (ap not (ne_eqb (r.epoch % 4) list other))))))
 
     pub homes_off : (home : Item → Back) (ws us : List Back) → us ≡ ws ++ homes home (on list (take i xs)) → us ≡ ws ++ homes home (on list (take (i + 1) xs))
     homes_off home ws us before = before ∙ ap (λ (ys : List Retired). ws ++ homes home ys) (sym on_other)

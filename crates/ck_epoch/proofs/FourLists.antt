@@ -39,10 +39,10 @@ none_left (r ∷ xs) = gone ∙ none_left xs
     gone = dite (ℕ_discrete (r.epoch % 4) 0)
         (λ e. ap (λ ys. off 3 (off 2 (off 1 ys))) (off_same 0 r xs e))
         (λ n0. ap (λ ys. off 3 (off 2 (off 1 ys))) (off_other 0 r xs n0) ∙ dite (ℕ_discrete (r.epoch % 4) 1)
-          (λ e. ap (λ ys. off 3 (off 2 ys)) (off_same 1 r (off 0 xs) e))
-          (λ n1. ap (λ ys. off 3 (off 2 ys)) (off_other 1 r (off 0 xs) n1) ∙ dite (ℕ_discrete (r.epoch % 4) 2)
-            (λ e. ap (off 3) (off_same 2 r (off 1 (off 0 xs)) e))
-            (λ n2. ap (off 3) (off_other 2 r (off 1 (off 0 xs)) n2) ∙ off_same 3 r (off 2 (off 1 (off 0 xs))) (omega arith))))
+        (λ e. ap (λ ys. off 3 (off 2 ys)) (off_same 1 r (off 0 xs) e))
+        (λ n1. ap (λ ys. off 3 (off 2 ys)) (off_other 1 r (off 0 xs) n1) ∙ dite (ℕ_discrete (r.epoch % 4) 2)
+        (λ e. ap (off 3) (off_same 2 r (off 1 (off 0 xs)) e))
+        (λ n2. ap (off 3) (off_other 2 r (off 1 (off 0 xs)) n2) ∙ off_same 3 r (off 2 (off 1 (off 0 xs))) (omega arith))))
 
 map_cond : (b : Bool) (k : Retirement) (ks : List Retirement) → queue (cond b (k ∷ ks) ks) ≡ cond b (k.retired ∷ queue ks) (queue ks)
 map_cond true k ks = refl
@@ -57,7 +57,7 @@ in_order xs =
     ∙ (ap (λ (ys : List Retired). on 0 xs ++ (ys ++ (on 2 o1 ++ on 3 o2))) (on-off 1 0 (λ e. omega arith) xs)
     ∙ (ap (λ (ys : List Retired). on 0 xs ++ (on 1 xs ++ (ys ++ on 3 o2))) (on-off 2 1 (λ e. omega arith) o0 ∙ on-off 2 0 (λ e. omega arith) xs)
     ∙ ap (λ (ys : List Retired). on 0 xs ++ (on 1 xs ++ (on 2 xs ++ ys)))
-        (on-off 3 2 (λ e. omega arith) o1 ∙ (on-off 3 1 (λ e. omega arith) o0 ∙ on-off 3 0 (λ e. omega arith) xs)))))
+    (on-off 3 2 (λ e. omega arith) o1 ∙ (on-off 3 1 (λ e. omega arith) o0 ∙ on-off 3 0 (λ e. omega arith) xs)))))
 
 one_list : (list : ℕ) (xs : List Retired) → length (on list xs) + length (off list xs) ≡ length xs
 one_list list xs = length-filter_both (is_on list) (λ (r : Retired). not (is_on list r)) (λ r. refl) xs

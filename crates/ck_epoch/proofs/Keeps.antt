@@ -86,13 +86,13 @@ module _ (records : ℕ) (past : Run) (words : List ℕ) (at : ℕ → TokenStat
               (λ other. ap (λ (x : TokenState). x.stage) (moved_else at n (suc r) t (λ z. absurd (omega arith))) ∙ h.unused r l);
           each = λ r l. dite (ℕ_discrete q r)
               (λ same. subst (λ (x : ℕ × TokenState × Stage). IsRecord now x.0 (get_or words' (active_word r) 0) (get_or words' (epoch_word r) 0) r x.1 x.2)
-                (λ i. (sym global i, sym stays i, sym (ap (λ (x : TokenState). x.stage) (moved_here at n (suc r) t (ap suc same))) i))
-                (subst (λ (x : ℕ). IsRecord now E (get_or words' (active_word x) 0) (get_or words' (epoch_word x) 0) x (at 0) t.stage) same (mine (omega arith))))
+              (λ i. (sym global i, sym stays i, sym (ap (λ (x : TokenState). x.stage) (moved_here at n (suc r) t (ap suc same))) i))
+              (subst (λ (x : ℕ). IsRecord now E (get_or words' (active_word x) 0) (get_or words' (epoch_word x) 0) x (at 0) t.stage) same (mine (omega arith))))
               (λ other. let o = others r l (λ z. other (sym z)) in
-                subst (λ (x : ℕ × ℕ × ℕ × TokenState × Stage). IsRecord now x.0 x.1 x.2 r x.3 x.4)
-                (λ i. (sym global i, sym o.0 i, sym o.1 i, sym stays i, sym (ap (λ (x : TokenState). x.stage) (moved_else at n (suc r) t (λ z. absurd (omega arith)))) i))
-                (pass.stays past n e E r (at 0) writer_made (λ z. absurd (omega arith)) (get_or words (active_word r) 0) (get_or words (epoch_word r) 0) (at (suc r)).stage
-                  (λ o is. open_else past n e r o is (λ z. absurd (omega arith))) (h.each r l)));
+              subst (λ (x : ℕ × ℕ × ℕ × TokenState × Stage). IsRecord now x.0 x.1 x.2 r x.3 x.4)
+              (λ i. (sym global i, sym o.0 i, sym o.1 i, sym stays i, sym (ap (λ (x : TokenState). x.stage) (moved_else at n (suc r) t (λ z. absurd (omega arith)))) i))
+              (pass.stays past n e E r (at 0) writer_made (λ z. absurd (omega arith)) (get_or words (active_word r) 0) (get_or words (epoch_word r) 0) (at (suc r)).stage
+              (λ o is. open_else past n e r o is (λ z. absurd (omega arith))) (h.each r l)));
         }
 
   -- and at a step of the writer at this stage
@@ -112,7 +112,7 @@ module _ (records : ℕ) (past : Run) (words : List ℕ) (at : ℕ → TokenStat
     writer_goes : (e : Entry) (t : TokenState) (words' : List ℕ) (E' : ℕ) → length words' ≡ length words → get_or words' 0 0 ≡ E' → ((i : ℕ) → 0 < i → i < base records → get_or words' i 0 ≡ get_or words i 0)
         → IsWriter records E' (account 0 past ++ e ∷ []) t
         → ((r : ℕ) → r < records → IsRecord past E (get_or words (active_word r) 0) (get_or words (epoch_word r) 0) r W (at (suc r)).stage
-            → IsRecord (past ++ (0, e) ∷ []) E' (get_or words (active_word r) 0) (get_or words (epoch_word r) 0) r t (at (suc r)).stage)
+        → IsRecord (past ++ (0, e) ∷ []) E' (get_or words (active_word r) 0) (get_or words (epoch_word r) 0) r t (at (suc r)).stage)
         → AreHeld records (past ++ (0, e) ∷ []) words' (moved at 0 t)
     writer_goes e t words' E' long global rest mine turns = let now : Run = past ++ (0, e) ∷ [] in
         let here : moved at 0 t 0 ≡ t = moved_here at 0 0 t refl in
@@ -154,14 +154,14 @@ module _ (records : ℕ) (past : Run) (words : List ℕ) (at : ℕ → TokenStat
     elsewhere t words' long rest rec stage opened = pass_goes q e t words' long (rest 0 (omega arith)) (λ m l o. (rest (active_word m) (omega arith), rest (epoch_word m) (omega arith)))
         (rec ∙ h.numbered q) (λ l. stage ∙ h.unused q l)
         (λ l. subst (λ (x : ℕ × ℕ × Stage). IsRecord after E x.0 x.1 q (at 0) x.2) (λ i. (sym (rest (active_word q) (omega arith)) i, sym (rest (epoch_word q) (omega arith)) i, sym stage i))
-          (pass.stays past (suc q) e E q (at 0) made_now (λ z. absurd (omega arith)) (get_or words (active_word q) 0) (get_or words (epoch_word q) 0) T.stage (opened l) (h.each q l)))
+        (pass.stays past (suc q) e E q (at 0) made_now (λ z. absurd (omega arith)) (get_or words (active_word q) 0) (get_or words (epoch_word q) 0) T.stage (opened l) (h.each q l)))
 
     -- a store in the active word of its record
     sets : (t : TokenState) (x : ℕ) → q < records → t.rec ≡ q → IsRecord after E x (get_or words (epoch_word q) 0) q (at 0) t.stage → AreHeld records after (set words (active_word q) x) (moved at (suc q) t)
     sets t x l rec mine = let w = h.wide in let i : ℕ = active_word q in
         pass_goes q e t (set words i x) (length-set words i x) (get_or-set_other words i 0 x 0 (omega arith))
-          (λ m _ other. (get_or-set_other words i (active_word m) x 0 (omega arith), get_or-set_other words i (epoch_word m) x 0 (omega arith))) rec (λ high. absurd (omega arith))
-          (λ _. subst (λ (z : ℕ × ℕ). IsRecord after E z.0 z.1 q (at 0) t.stage) (λ j. (sym (get_or-set_same words i x 0 (omega arith)) j, sym (get_or-set_other words i (epoch_word q) x 0 (omega arith)) j)) mine)
+        (λ m _ other. (get_or-set_other words i (active_word m) x 0 (omega arith), get_or-set_other words i (epoch_word m) x 0 (omega arith))) rec (λ high. absurd (omega arith))
+        (λ _. subst (λ (z : ℕ × ℕ). IsRecord after E z.0 z.1 q (at 0) t.stage) (λ j. (sym (get_or-set_same words i x 0 (omega arith)) j, sym (get_or-set_other words i (epoch_word q) x 0 (omega arith)) j)) mine)
 
     enters : T.stage ≡ outside → q < records → word_of e.step ≡ active_word q → (c n : ℕ) → AreHeld records after (set words (active_word q) 1) (moved at (suc q) (record T { stage = entering; calls = c; steps = n }))
     enters is l on c n = sets (record T { stage = entering; calls = c; steps = n }) 1 l (h.numbered q)
@@ -171,22 +171,22 @@ module _ (records : ℕ) (past : Run) (words : List ℕ) (at : ℕ → TokenStat
     deepens : (d g x : ℕ) → T.stage ≡ inside d g → q < records → e.step ≡ Store (active_word q) x → (c n : ℕ) → AreHeld records after (set words (active_word q) x) (moved at (suc q) (record T { stage = at_depth x g; calls = c; steps = n }))
     deepens d g zero is l on c n = sets (record T { stage = outside; calls = c; steps = n }) 0 l (h.numbered q)
         (pass.leaves past (suc q) e E q (at 0) made_now (λ z. absurd (omega arith)) (get_or words (active_word q) 0) (get_or words (epoch_word q) 0) d g
-          (λ o was. not_ended past (suc q) e q o was (opens_none (active_word q) (ap word_of on) (λ z. absurd (omega arith)) o was) refl on) (stands (inside d g) is l))
+        (λ o was. not_ended past (suc q) e q o was (opens_none (active_word q) (ap word_of on) (λ z. absurd (omega arith)) o was) refl on) (stands (inside d g) is l))
     deepens d g (suc x) is l on c n = sets (record T { stage = inside (suc x) g; calls = c; steps = n }) (suc x) l (h.numbered q)
         (pass.deepens past (suc q) e E q (at 0) made_now (λ z. absurd (omega arith)) (get_or words (active_word q) 0) (get_or words (epoch_word q) 0) (opens_none (active_word q) (ap word_of on) (λ z. absurd (omega arith))) d (suc x) g (omega arith) (stands (inside d g) is l))
 
     loads : (g : ℕ) → T.stage ≡ entering → q < records → e.step ≡ Load 0 g → g ≡ E → (n : ℕ) → AreHeld records after words (moved at (suc q) (record T { stage = holding g; steps = n }))
     loads g is l on found n = pass_goes q e (record T { stage = holding g; steps = n }) words refl refl (λ m _ o. (refl, refl)) (h.numbered q) (λ high. absurd (omega arith))
         (λ _. subst (λ (x : ℕ). IsRecord after E (get_or words (active_word q) 0) (get_or words (epoch_word q) 0) q (at 0) (holding x)) (sym found)
-          (pass.loads past (suc q) e E q (at 0) made_now (λ z. absurd (omega arith)) (get_or words (active_word q) 0) (get_or words (epoch_word q) 0) (opens_none_load 0 g on) (stands entering is l)))
+        (pass.loads past (suc q) e E q (at 0) made_now (λ z. absurd (omega arith)) (get_or words (active_word q) 0) (get_or words (epoch_word q) 0) (opens_none_load 0 g on) (stands entering is l)))
 
     opens : (g : ℕ) → T.stage ≡ holding g → q < records → (n : ℕ) → AreHeld records after (set words (epoch_word q) g) (moved at (suc q) (record T { stage = inside 1 g; steps = n }))
     opens g is l n = let w = h.wide in let i : ℕ = epoch_word q in
         pass_goes q e (record T { stage = inside 1 g; steps = n }) (set words i g) (length-set words i g) (get_or-set_other words i 0 g 0 (omega arith))
-          (λ m _ other. (get_or-set_other words i (active_word m) g 0 (omega arith), get_or-set_other words i (epoch_word m) g 0 (omega arith))) (h.numbered q) (λ high. absurd (omega arith))
-          (λ _. subst (λ (z : ℕ × ℕ). IsRecord after E z.0 z.1 q (at 0) (inside 1 g)) (λ j. (sym (get_or-set_other words i (active_word q) g 0 (omega arith)) j, sym (get_or-set_same words i g 0 (omega arith)) j))
-            (pass.opens past (suc q) e E q (at 0) made_now (λ z. absurd (omega arith)) (get_or words (active_word q) 0) (get_or words (epoch_word q) 0) g
-              (λ o was. ⊎_elim (λ old. inl old) (λ new. inr new.0) (open_cases past (suc q) e q o was)) (stands (holding g) is l)))
+        (λ m _ other. (get_or-set_other words i (active_word m) g 0 (omega arith), get_or-set_other words i (epoch_word m) g 0 (omega arith))) (h.numbered q) (λ high. absurd (omega arith))
+        (λ _. subst (λ (z : ℕ × ℕ). IsRecord after E z.0 z.1 q (at 0) (inside 1 g)) (λ j. (sym (get_or-set_other words i (active_word q) g 0 (omega arith)) j, sym (get_or-set_same words i g 0 (omega arith)) j))
+        (pass.opens past (suc q) e E q (at 0) made_now (λ z. absurd (omega arith)) (get_or words (active_word q) 0) (get_or words (epoch_word q) 0) g
+        (λ o was. ⊎_elim (λ old. inl old) (λ new. inr new.0) (open_cases past (suc q) e q o was)) (stands (holding g) is l)))
 
     used : (g : Stage) → T.stage ≡ g → g ≢ outside → q < records
     used g is other = dite (dec_lt q records) (λ l. l) (λ n. absurd (other (sym is ∙ h.unused q (omega arith))))
@@ -207,8 +207,8 @@ module _ (records : ℕ) (past : Run) (words : List ℕ) (at : ℕ → TokenStat
         → AreHeld records after (set words a x) (moved at (suc q) (record (cond (nat_lt a (base records)) t T) { steps = n }))
     by_word a x n t may on own = ⊎_elim
         (λ (m : SetsActive records T a). let z = h.numbered q in let l = m.1 in let at_ : a ≡ active_word q = m.0 ∙ ap active_word z in
-          let b : nat_lt a (base records) ≡ true = subst (λ (k : ℕ). nat_lt k (base records) ≡ true) (sym at_) (lt_yes (active_word q) (base records) (omega arith)) in
-          subst (λ (z : ℕ × Bool). AreHeld records after (set words z.0 x) (moved at (suc q) (record (cond z.1 t T) { steps = n }))) (λ i. (sym at_ i, sym b i)) (own (omega arith) (on ∙ ap (λ (k : ℕ). Store k x) at_)))
+        let b : nat_lt a (base records) ≡ true = subst (λ (k : ℕ). nat_lt k (base records) ≡ true) (sym at_) (lt_yes (active_word q) (base records) (omega arith)) in
+        subst (λ (z : ℕ × Bool). AreHeld records after (set words z.0 x) (moved at (suc q) (record (cond z.1 t T) { steps = n }))) (λ i. (sym at_ i, sym b i)) (own (omega arith) (on ∙ ap (λ (k : ℕ). Store k x) at_)))
         (λ (high : base records ≤ a). subst (λ (z : Bool). AreHeld records after (set words a x) (moved at (suc q) (record (cond z t T) { steps = n }))) (sym (lt_no a (base records) high)) (client_store a x on high n)) may
 
     pass_kind : (g : Stage) (s : Step) (o i : List ℕ) → T.stage ≡ g → e.step ≡ s → MayStep records T o i g s → Fits words s
@@ -217,12 +217,12 @@ module _ (records : ℕ) (past : Run) (words : List ℕ) (at : ℕ → TokenStat
     pass_kind outside (Store a x) o i is on may fits = by_word a x (T.steps + 1) (record T { stage = entering; calls = T.calls + 1 })
         (⊎_elim (λ m. inl m.0) (λ m. inr m.0) may) on
         (λ l own. ⊎_elim
-          (λ m. subst (λ (z : ℕ). AreHeld records after (set words (active_word q) z) (moved at (suc q) (record T { stage = entering; calls = T.calls + 1; steps = T.steps + 1 }))) (sym m.1) (enters is l (ap word_of own) (T.calls + 1) (T.steps + 1)))
-          (λ m. let high = m.0 in let z = ap word_of (sym on ∙ own) in absurd (omega arith)) may)
+        (λ m. subst (λ (z : ℕ). AreHeld records after (set words (active_word q) z) (moved at (suc q) (record T { stage = entering; calls = T.calls + 1; steps = T.steps + 1 }))) (sym m.1) (enters is l (ap word_of own) (T.calls + 1) (T.steps + 1)))
+        (λ m. let high = m.0 in let z = ap word_of (sym on ∙ own) in absurd (omega arith)) may)
     pass_kind entering (Load a x) o i is on may fits = loads x is (used entering is (λ z. cc)) (on ∙ ap (λ (k : ℕ). Load k x) may.0) (fits ∙ ap (λ (k : ℕ). get_or words k 0) may.0) (T.steps + 1)
     pass_kind (holding g) (Store a x) o i is on may fits = let z = h.numbered q in
         subst (λ (z : ℕ × ℕ). AreHeld records after (set words z.0 z.1) (moved at (suc q) (record T { stage = inside 1 g; steps = T.steps + 1 }))) (λ i. (sym (may.0 ∙ ap epoch_word z) i, sym may.2 i))
-          (opens g is (used (holding g) is (λ z. cc)) (T.steps + 1))
+        (opens g is (used (holding g) is (λ z. cc)) (T.steps + 1))
     pass_kind (inside d g) (Load a x) o i is on may fits = client_load a x on (T.steps + 1)
     pass_kind (inside d g) (Store a x) o i is on may fits = by_word a x (T.steps + 1) (record T { stage = at_depth x g; calls = T.calls + 1 }) (⊎_elim (λ m. inl m.0) (λ m. inr m.0) may) on
         (λ l own. deepens d g x is l own (T.calls + 1) (T.steps + 1))
@@ -246,7 +246,7 @@ module _ (records : ℕ) (past : Run) (words : List ℕ) (at : ℕ → TokenStat
     -- a load
     load_goes : (s : Stage) → V.stage ≡ s → (t : TokenState) → (IsWriter records E (account 0 past) (at_stage V s) → IsWriter records E (account 0 past ++ e ∷ []) t)
         → ((r : ℕ) → r < records → IsRecord past E (get_or words (active_word r) 0) (get_or words (epoch_word r) 0) r (at_stage V s) (at (suc r)).stage
-            → IsRecord then E (get_or words (active_word r) 0) (get_or words (epoch_word r) 0) r t (at (suc r)).stage)
+        → IsRecord then E (get_or words (active_word r) 0) (get_or words (epoch_word r) 0) r t (at (suc r)).stage)
         → AreHeld records then words (moved at 0 t)
     load_goes s is t mine turns = writer_goes s is e t words E refl refl (λ i _ _. refl) (mine (at_writer s is)) turns
 
@@ -254,7 +254,7 @@ module _ (records : ℕ) (past : Run) (words : List ℕ) (at : ℕ → TokenStat
     writer_elsewhere : V.stage ≡ free → (words' : List ℕ) → length words' ≡ length words → ((i : ℕ) → i < base records → get_or words' i 0 ≡ get_or words i 0) → AreHeld records then words' (moved at 0 (record V { steps = V.steps + 1 }))
     writer_elsewhere is words' long rest = subst (λ (x : Stage). AreHeld records then words' (moved at 0 (record V { stage = x; steps = V.steps + 1 }))) (sym is)
         (writer_goes free is e (record V { stage = free; steps = V.steps + 1 }) words' E long (rest 0 (omega arith)) (λ i _ l. rest i l) (writer.elsewhere records E (account 0 past) e V (at_writer free is))
-          (λ r l g. record_.elsewhere past e (get_or words (active_word r) 0) (get_or words (epoch_word r) 0) r E (at_stage V free) (at (suc r)).stage (at_made free is) g))
+        (λ r l g. record_.elsewhere past e (get_or words (active_word r) 0) (get_or words (epoch_word r) 0) r E (at_stage V free) (at (suc r)).stage (at_made free is) g))
 
     abbrev Low : ℕ → Retirement → Type 0
     Low up k = k.retired.epoch + up ≤ E
@@ -281,7 +281,7 @@ module _ (records : ℕ) (past : Run) (words : List ℕ) (at : ℕ → TokenStat
       goes_past : (none : get_or words (active_word rec) 0 ≡ 0) → AreHeld records then words (moved at 0 (record V { stage = scanning task v (rec + 1) busy; steps = V.steps + 1 }))
       goes_past none = load_goes (scanning task v rec busy) is _ (λ w. writer.scans records E (account 0 past) e V task v rec busy w (rec + 1) busy (omega arith))
           (λ r l g. record_.passes_inactive past e (get_or words (active_word r) 0) (get_or words (epoch_word r) 0) r E V (at (suc r)).stage task v rec busy (at_made (scanning task v rec busy) is) g (V.steps + 1)
-            (λ z. ap (λ (k : ℕ). get_or words (active_word k) 0) z ∙ none))
+          (λ z. ap (λ (k : ℕ). get_or words (active_word k) 0) z ∙ none))
 
       meets : AreHeld records then words (moved at 0 (record V { stage = comparing task v rec busy; steps = V.steps + 1 }))
       meets = load_goes (scanning task v rec busy) is _ (λ w. writer.compares records E (account 0 past) e V task v rec busy w below)
@@ -290,7 +290,7 @@ module _ (records : ℕ) (past : Run) (words : List ℕ) (at : ℕ → TokenStat
     clears : (v rec : ℕ) → V.stage ≡ scanning polling v rec None → rec + 1 ≡ records → get_or words (active_word rec) 0 ≡ 0 → AreHeld records then words (moved at 0 (record (dispatch_all V) { stage = free; steps = V.steps + 1 }))
     clears v rec is last none = load_goes (scanning polling v rec None) is _ (λ w. writer.clears records E (account 0 past) e V v rec None w)
         (λ r l g. record_.clears past e (get_or words (active_word r) 0) (get_or words (epoch_word r) 0) r E V (at (suc r)).stage v rec (V.steps + 1) (at_made (scanning polling v rec None) is) g (omega arith)
-          (λ z. ap (λ (k : ℕ). get_or words (active_word k) 0) z ∙ none))
+        (λ z. ap (λ (k : ℕ). get_or words (active_word k) 0) z ∙ none))
 
     -- the record's epoch was compared
     module _ (task : Task) (v rec : ℕ) (busy : Option ℕ) (is : V.stage ≡ comparing task v rec busy) (below : rec < records) where
@@ -310,7 +310,7 @@ module _ (records : ℕ) (past : Run) (words : List ℕ) (at : ℕ → TokenStat
       goes_by : (found : ℕ) → get_or words (epoch_word rec) 0 ≡ v → AreHeld records then words (moved at 0 (record V { stage = scanning task v (rec + 1) (Some found); steps = V.steps + 1 }))
       goes_by found same = load_goes (comparing task v rec busy) is _ (λ w. writer.scans records E (account 0 past) e V task v rec busy (before w) (rec + 1) (Some found) (omega arith))
           (λ r l g. record_.passes_current past e (get_or words (active_word r) 0) (get_or words (epoch_word r) 0) r E V (at (suc r)).stage task v rec busy before_made (before_record r g) (V.steps + 1) found
-            (λ z. ap (λ (k : ℕ). get_or words (epoch_word k) 0) z ∙ (same ∙ (at_writer (comparing task v rec busy) is).scan.0)))
+          (λ z. ap (λ (k : ℕ). get_or words (epoch_word k) 0) z ∙ (same ∙ (at_writer (comparing task v rec busy) is).scan.0)))
 
       repeats : AreHeld records then words (moved at 0 (record V { stage = scanning task v rec busy; steps = V.steps + 1 }))
       repeats = load_goes (comparing task v rec busy) is _ (λ w. writer.scans records E (account 0 past) e V task v rec busy (before w) rec busy (omega arith))
@@ -328,32 +328,32 @@ module _ (records : ℕ) (past : Run) (words : List ℕ) (at : ℕ → TokenStat
     module _ (v : ℕ) (busy : Option ℕ) where
       raise_goes : (s : Stage) → V.stage ≡ s → v ≡ E → (t : TokenState) → (IsWriter records E (account 0 past) (at_stage V s) → IsWriter records (E + 1) (account 0 past ++ e ∷ []) t)
           → ((r : ℕ) → r < records → IsRecord past E (get_or words (active_word r) 0) (get_or words (epoch_word r) 0) r (at_stage V s) (at (suc r)).stage
-              → IsRecord then (E + 1) (get_or words (active_word r) 0) (get_or words (epoch_word r) 0) r t (at (suc r)).stage)
+          → IsRecord then (E + 1) (get_or words (active_word r) 0) (get_or words (epoch_word r) 0) r t (at (suc r)).stage)
           → AreHeld records then (set words 0 (v + 1)) (moved at 0 t)
       raise_goes s is same t mine turns = let w = h.wide in
           writer_goes s is e t (set words 0 (v + 1)) (E + 1) (length-set words 0 (v + 1)) (get_or-set_same words 0 (v + 1) 0 (omega arith) ∙ ap (λ (k : ℕ). k + 1) same)
-            (λ i l _. get_or-set_other words 0 i (v + 1) 0 (omega arith)) (mine (at_writer s is)) turns
+          (λ i l _. get_or-set_other words 0 i (v + 1) 0 (omega arith)) (mine (at_writer s is)) turns
 
       raises : (task : Task) → V.stage ≡ scanning task v records busy → AreHeld records then (set words 0 (v + 1)) (moved at 0 (record (after_raise V task v) { steps = V.steps + 1 }))
       raises polling is = let s : Stage = scanning polling v records busy in let same = (at_writer s is).scan.0 in
           raise_goes s is same _ (λ w. writer.raises records E (account 0 past) e V v records busy w)
-            (λ r l g. record_.raises past e (get_or words (active_word r) 0) (get_or words (epoch_word r) 0) r E V (at (suc r)).stage v records busy l (V.steps + 1) same h.writer.late (low 0 s is refl) (at_made s is) g)
+          (λ r l g. record_.raises past e (get_or words (active_word r) 0) (get_or words (epoch_word r) 0) r E V (at (suc r)).stage v records busy l (V.steps + 1) same h.writer.late (low 0 s is refl) (at_made s is) g)
       raises (first_round all started) is = let s : Stage = scanning (first_round all started) v records busy in let same = (at_writer s is).scan.0 in
           raise_goes s is same _ (λ w. writer.raises_first records E (account 0 past) e V all started v records busy w)
-            (λ r l g. record_.raises_first past e (get_or words (active_word r) 0) (get_or words (epoch_word r) 0) r E V (at (suc r)).stage v records busy l (V.steps + 1) all started (at_made s is) g)
+          (λ r l g. record_.raises_first past e (get_or words (active_word r) 0) (get_or words (epoch_word r) 0) r E V (at (suc r)).stage v records busy l (V.steps + 1) all started (at_made s is) g)
       raises (second_round all started) is = let s : Stage = scanning (second_round all started) v records busy in let same = (at_writer s is).scan.0 in
           raise_goes s is same _ (λ w. writer.raises_second records E (account 0 past) e V all started v records busy w)
-            (λ r l g. record_.raises_second past e (get_or words (active_word r) 0) (get_or words (epoch_word r) 0) r E V (at (suc r)).stage v records busy l (V.steps + 1) all started (low 1 s is refl) (at_made s is) g)
+          (λ r l g. record_.raises_second past e (get_or words (active_word r) 0) (get_or words (epoch_word r) 0) r E V (at (suc r)).stage v records busy l (V.steps + 1) all started (low 1 s is refl) (at_made s is) g)
 
     -- the load of the global epoch at which a call of the writer's begins
     opened : (o i : List ℕ) (found : ℕ) → V.stage ≡ free → e ≡ handing o i (Load 0 found) → found ≡ E → V.calls < 2 ^ 40 → Retires o i ⊎ Calls poll o i ⊎ Calls synchronize o i ⊎ Calls barrier o i
         → AreHeld records then words (moved at 0 (record (after_load V o i found) { steps = V.steps + 1 }))
     opened o i found is whole same few may = ⊎_elim
         (λ (m : Retires o i). subst (λ (l : List ℕ). AreHeld records then words (moved at 0 (record (after_load V o l found) { steps = V.steps + 1 }))) (sym m.2)
-          (retires is o m.0 m.1 found (whole ∙ ap (λ (l : List ℕ). handing o l (Load 0 found)) m.2) same few))
+        (retires is o m.0 m.1 found (whole ∙ ap (λ (l : List ℕ). handing o l (Load 0 found)) m.2) same few))
         (λ others. ⊎_elim
-          (λ (m : Calls poll o i). by_name poll m (polls is found same few))
-          (λ rounds. ⊎_elim (λ (m : Calls synchronize o i). by_name synchronize m (begins is false found same few)) (λ (m : Calls barrier o i). by_name barrier m (begins is true found same few)) rounds) others) may
+        (λ (m : Calls poll o i). by_name poll m (polls is found same few))
+        (λ rounds. ⊎_elim (λ (m : Calls synchronize o i). by_name synchronize m (begins is false found same few)) (λ (m : Calls barrier o i). by_name barrier m (begins is true found same few)) rounds) others) may
       where
         by_name : (name : ℕ) → Calls name o i → AreHeld records then words (moved at 0 (record (after_load V (name ∷ []) [] found) { steps = V.steps + 1 }))
             → AreHeld records then words (moved at 0 (record (after_load V o i found) { steps = V.steps + 1 }))
@@ -399,9 +399,9 @@ module _ (records : ℕ) (past : Run) (words : List ℕ) (at : ℕ → TokenStat
     writer_kind free (Store a x) o i is whole may fits = let high = may.0 in writer_elsewhere is (set words a x) (length-set words a x) (λ j l. get_or-set_other words a j x 0 (omega arith))
     writer_kind free (Load a x) o i is whole may fits = ⊎_elim
         (λ m. subst (λ (b : Bool). AreHeld records then words (moved at 0 (record (cond b (after_load V o i x) V) { steps = V.steps + 1 }))) (sym (lt_yes a (base records) (let z = m.0 in omega arith)))
-          (opened o i x is (whole ∙ ap (λ (k : ℕ). handing o i (Load k x)) m.0) (fits ∙ ap (λ (k : ℕ). get_or words k 0) m.0) m.1 m.2))
+        (opened o i x is (whole ∙ ap (λ (k : ℕ). handing o i (Load k x)) m.0) (fits ∙ ap (λ (k : ℕ). get_or words k 0) m.0) m.1 m.2))
         (λ m. subst (λ (b : Bool). AreHeld records then words (moved at 0 (record (cond b (after_load V o i x) V) { steps = V.steps + 1 }))) (sym (lt_no a (base records) m.0))
-          (writer_elsewhere is words refl (λ j l. refl))) may
+        (writer_elsewhere is words refl (λ j l. refl))) may
     writer_kind (scanning task v rec busy) (Load a x) o i is whole may fits = by_test (x == 0) refl
       where
         found : x ≡ get_or words (active_word rec) 0
@@ -415,8 +415,8 @@ module _ (records : ℕ) (past : Run) (words : List ℕ) (at : ℕ → TokenStat
         let same : v ≡ E = (at_writer (scanning task v rec busy) is).scan.0 in
         let meets_it : x ≡ old = fits ∙ (ap (λ (k : ℕ). get_or words k 0) may.0 ∙ (sym same ∙ sym may.2)) in
         subst (λ (z : ℕ × ℕ). AreHeld records then (set words z.0 z.1) (moved at 0 (record (after_raise V task v) { steps = V.steps + 1 })))
-          (λ j. (sym may.0 j, (sym may.3 ∙ ap (λ (b : Bool). cond b new x) (sym (eq-eqb x old meets_it))) j))
-          (raises v busy task (is ∙ ap (λ (k : ℕ). scanning task v k busy) may.1))
+        (λ j. (sym may.0 j, (sym may.3 ∙ ap (λ (b : Bool). cond b new x) (sym (eq-eqb x old meets_it))) j))
+        (raises v busy task (is ∙ ap (λ (k : ℕ). scanning task v k busy) may.1))
     writer_kind (comparing task v rec busy) (Load a x) o i is whole may fits = compared task v rec x busy is may.1 (fits ∙ ap (λ (k : ℕ). get_or words k 0) may.0)
     writer_kind (between all started) (Load a x) o i is whole may fits = goes_on all started x is (fits ∙ ap (λ (k : ℕ). get_or words k 0) may.0)
     writer_kind outside s o i is whole may fits = absurd (not_reading outside is tt)

@@ -172,7 +172,7 @@ module _ {C : Type 0} (client : Client C) (passes : Passes client) where
     did_more v l ts h is = h ∙ ap (adding t)
         (call_more poll [] (Load 0 e) (scan_steps 0 at.looked) ts
         ∙ ap (λ (ss : List Step). call poll [] (Load 0 e ∷ ss))
-          (ap (λ (k : List Step). scan_steps 0 at.looked ++ k) (is ∙ ap (λ (k : ℕ). look_steps k l) (let c = at.count in omega arith)) ∙ sym (scan_more 0 at.looked l)))
+        (ap (λ (k : List Step). scan_steps 0 at.looked ++ k) (is ∙ ap (λ (k : ℕ). look_steps k l) (let c = at.count in omega arith)) ∙ sym (scan_more 0 at.looked l)))
 
     one_more : (l : Looked) → length (at.looked ++ l ∷ []) ≡ rec + 1
     one_more l = length-append at.looked (l ∷ []) ∙ ap (λ (k : ℕ). k + 1) at.count
@@ -182,7 +182,7 @@ module _ {C : Type 0} (client : Client C) (passes : Passes client) where
           → state v ≡ record (cond b (either (state u) (scanning polling e (rec + 1) busy) (is_done S (rec + 1) busy)) (record (state u) { stage = comparing polling e rec busy })) { steps = (state u).steps + 1 }
       seen_state b test = state_at_step client u v (further (Load w n)) (scanning polling e rec busy) made at_record
           ∙ ap (λ (x : ℕ × Bool). record (cond x.1 (either (state u) (scanning polling e (rec + 1) busy) (is_done x.0 (rec + 1) busy)) (record (state u) { stage = comparing polling e rec busy })) { steps = (state u).steps + 1 })
-            (λ i. (same_records i, test i))
+          (λ i. (same_records i, test i))
 
       seen_number : number v ≡ 0
       seen_number = number_stays (program client) u v (further (Load w n)) made ∙ at.first
@@ -233,7 +233,7 @@ module _ {C : Type 0} (client : Client C) (passes : Passes client) where
               → state z ≡ record (cond b (either (state v) (scanning polling e (rec + 1) busier) (is_done S (rec + 1) busier)) (record (state v) { stage = free })) { steps = (state v).steps + 1 }
           compared_state b test = state_at_step client v z (further (Load x m)) (comparing polling e rec busy) compared comparing_stage
               ∙ ap (λ (y : ℕ × Bool). record (cond y.1 (either (state v) (scanning polling e (rec + 1) busier) (is_done y.0 (rec + 1) busier)) (record (state v) { stage = free })) { steps = (state v).steps + 1 })
-                (λ i. (comparing_records i, test i))
+              (λ i. (comparing_records i, test i))
 
           compared_number : number z ≡ 0
           compared_number = number_stays (program client) v z (further (Load x m)) compared ∙ seen_number
@@ -245,7 +245,7 @@ module _ {C : Type 0} (client : Client C) (passes : Passes client) where
           compared_steps = did_more z l (Load (active_word rec) n ∷ Load (epoch_word rec) m ∷ [])
               (adds_one (program client) t v z (call poll [] (Load 0 e ∷ scan_steps 0 at.looked) ++ further (Load (active_word rec) n) ∷ []) (further (Load x m)) seen compared
               ∙ ap (adding t) (append_assoc (call poll [] (Load 0 e ∷ scan_steps 0 at.looked)) (further (Load (active_word rec) n) ∷ []) (further (Load x m) ∷ [])
-                ∙ ap (λ (k : ℕ). call poll [] (Load 0 e ∷ scan_steps 0 at.looked) ++ further (Load (active_word rec) n) ∷ further (Load k m) ∷ []) x_is))
+              ∙ ap (λ (k : ℕ). call poll [] (Load 0 e ∷ scan_steps 0 at.looked) ++ further (Load (active_word rec) n) ∷ further (Load k m) ∷ []) x_is))
               (sym (ap (λ (c : Bool). Load (active_word rec) n ∷ cond c [] (Load (epoch_word rec) m ∷ [])) (ne_eqb n 0 active)))
 
           pub current : m ≡ e → IsScanning client t z e (rec + 1) busier

@@ -102,7 +102,7 @@ module _ (past : Run) (n : ℕ) (e : Entry) (global r : ℕ) (w : TokenState) (m
     sections = λ o is. ⊎_elim
         (λ (old : IsOpen past r o). absurd (h.sections o old))
         (λ (new : o ≡ length past). young_guarded global r g (count past 0) (λ i. o < place now 0 i) w made
-            (λ i l older. let b = place_below past 0 i l in let c = back o i l older in absurd (omega arith)))
+        (λ i l older. let b = place_below past 0 i l in let c = back o i l older in absurd (omega arith)))
         (cases o is);
   }
 

@@ -27,7 +27,7 @@ loaded opens i t = adding t (handing opens (i.at ∷ i.log ∷ []) (Load 0 (stat
 -- a writer as contracts see it, of equal parts
 pub closed : {C F : Type 0} (u v : Token C) (b d : Backlog) (calls : ℕ) (handler : F) (tally : ℕ) → u ≡ v → b ≡ d
     → ◌≡◌ {A = Writer C F} (record { token = u; calls = calls; waiting = b.waiting; room = b.room; handler = handler; tally = tally })
-        (record { token = v; calls = calls; waiting = d.waiting; room = d.room; handler = handler; tally = tally })
+    (record { token = v; calls = calls; waiting = d.waiting; room = d.room; handler = handler; tally = tally })
 closed u v b d calls handler tally e f = λ i. record { token = e i; calls = calls; waiting = (f i).waiting; room = (f i).room; handler = handler; tally = tally }
 
 module _ {C : Type 0} (client : Client C) (t : Token C) (b : Backlog) (inv : IsWriter client t b) (few : (state t).calls < 2 ^ 40) (i : Item) (opens : List ℕ)
@@ -49,7 +49,7 @@ module _ {C : Type 0} (client : Client C) (t : Token C) (b : Backlog) (inv : IsW
     retired_state = state_after_step client t u (hands n) made
         ∙ (ap (λ (g : Stage). record (after_step (records_of (origin t)) (state t) opens (i.at ∷ i.log ∷ []) g (Load 0 n)) { steps = (state t).steps + 1 }) inv.stage
         ∙ ap (λ (c : Bool). record (cond c (record (state t) { stage = free; calls = (state t).calls + 1; pending = (state t).pending ++ retirement (state t).steps i.at i.log n ∷ [] }) (state t)) { steps = (state t).steps + 1 })
-          (lt_first (records_of (origin t))))
+        (lt_first (records_of (origin t))))
 
     pub finds_epoch : n ≡ (state t).epoch
     finds_epoch = writer_loads client t u (hands n) n inv.part inv.first made refl
@@ -71,5 +71,5 @@ module _ {C : Type 0} (client : Client C) (t : Token C) (b : Backlog) (inv : IsW
       pending = ap (λ (c : Backlog). c.pending) is ∙ (ap (λ (rs : List Retired). rs ++ record { item = i; epoch = n } ∷ []) inv.pending ∙ sym queued);
       retired = subst (λ (o : Origin C). AreRetired (client.retires o.config.client) b'.pending) (sym (origin_stays (program client) t u (hands n) made))
           (subst (λ (c : Backlog). AreRetired (client.retires (origin t).config.client) c.pending) (sym is)
-            (All-push (λ (r : Retired). client.retires (origin t).config.client r.item ≡ true) b.pending (record { item = i; epoch = n }) inv.retired may));
+          (All-push (λ (r : Retired). client.retires (origin t).config.client r.item ≡ true) b.pending (record { item = i; epoch = n }) inv.retired may));
     }

@@ -97,19 +97,22 @@ module _ {C : Type 0} (client : Client C) (passes : Passes client) where
       round_table = table_stays (program client) t u (further (raise found)) made ∙ h.same
 
       pub round_steps : (steps : List Step) × IsRound R e (Load 0 e ∷ steps) × (u ≡ adding t0 (map further steps))
-      round_steps = let ws = waits_steps 0 h.waits in (ws ++ raise e ∷ [], (h.waits, h.count, h.each, refl),
-          adds_one (program client) t0 t u (map further ws) (further (raise found)) h.did made
-          ∙ ap (adding t0) (ap (λ (n : ℕ). map further ws ++ further (raise n) ∷ []) finds_it ∙ sym (map-append further ws (raise e ∷ []))))
+      round_steps = let ws = waits_steps 0 h.waits in (
+        ws ++ raise e ∷ [],
+        (h.waits, h.count, h.each, refl),
+        adds_one (program client) t0 t u (map further ws) (further (raise found)) h.did made
+            ∙ ap (adding t0) (ap (λ (n : ℕ). map further ws ++ further (raise n) ∷ []) finds_it ∙ sym (map-append further ws (raise e ∷ []))),
+      )
 
       pub round_state : (task : Task) → IsWaiting task → (busy : Option ℕ) → (state t0).stage ≡ scanning task e 0 busy → state u ≡ record (after_raise (state t0) task e) { steps = (state u).steps }
       round_state task w busy is =
           let on = h.on task w busy is in
           let n : ℕ = (state t).steps + 1 in
           let raised : state u ≡ record (after_raise (state t) task e) { steps = n } = state_after_step client t u (further (raise found)) made
-              ∙ next_at R (state t) (scanning task e R on.0) [] (raise found) (ap (λ (s : TokenState). s.stage) on.1) in
+          ∙ next_at R (state t) (scanning task e R on.0) [] (raise found) (ap (λ (s : TokenState). s.stage) on.1) in
           let whole : state u ≡ record (after_raise (state t0) task e) { steps = n } = raised
-              ∙ (ap (λ (s : TokenState). record (after_raise s task e) { steps = n }) on.1
-              ∙ raise_same task w (state t0) (scanning task e R on.0) (state t).steps n e) in
+          ∙ (ap (λ (s : TokenState). record (after_raise s task e) { steps = n }) on.1
+          ∙ raise_same task w (state t0) (scanning task e R on.0) (state t).steps n e) in
           whole ∙ λ i. record (after_raise (state t0) task e) { steps = ap (λ (s : TokenState). s.steps) (sym whole) i }
 
 -- after the last record
@@ -222,9 +225,13 @@ module _ {C : Type 0} (client : Client C) (passes : Passes client) (t : Token C)
               ∙ ap (λ (es : List Entry). adding t (entry opens (Load 0 e) ∷ es)) (append_assoc (map further first) (further (Load 0 e') ∷ []) (map further second) ∙ sym (map-append further first (Load 0 e' ∷ second)))))))
 
           pub both_rounds : (records : ℕ) → IsRound records e (Load 0 e ∷ first) → IsRound records e' (Load 0 e' ∷ second) → (n : ℕ) → opens ≡ n ∷ [] → Rounds records n S.epoch t y
-          both_rounds records a b n is = (Load 0 e ∷ first, Load 0 e' ∷ second, subst (λ (k : ℕ). IsRound records k (Load 0 e ∷ first)) first_epoch a,
-              subst (λ (k : ℕ). IsRound records k (Load 0 e' ∷ second)) (next_epoch ∙ ap (λ (k : ℕ). k + 1) first_epoch) b,
-              steps_are ∙ ap (λ (o : List ℕ). adding t (entry o (Load 0 e) ∷ map further (first ++ Load 0 e' ∷ second))) is)
+          both_rounds records a b n is = (
+            Load 0 e ∷ first,
+            Load 0 e' ∷ second,
+            subst (λ (k : ℕ). IsRound records k (Load 0 e ∷ first)) first_epoch a,
+            subst (λ (k : ℕ). IsRound records k (Load 0 e' ∷ second)) (next_epoch ∙ ap (λ (k : ℕ). k + 1) first_epoch) b,
+            steps_are ∙ ap (λ (o : List ℕ). adding t (entry o (Load 0 e) ∷ map further (first ++ Load 0 e' ∷ second))) is,
+          )
 
 -- after both rounds no section is open that was open at the call
 pub have_ended : {C : Type 0} (client : Client C) (passes : Passes client) (t u : Token C) (n : ℕ) (all : Bool) → IsFree client t → origin u ≡ origin t → number u ≡ 0 → state u ≡ after_rounds all (state t) n → HaveEnded client t u

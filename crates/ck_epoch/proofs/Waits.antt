@@ -116,18 +116,23 @@ module _ {C : Type 0} (client : Client C) (passes : Passes client) (e rec : ℕ)
     -- it was inactive
     module _ (none : active ≡ 0) where
       pub on_inactive : ScansOn e rec (rec + 1) t u
-      on_inactive task w busy is = (busy, with_steps (state t) (state u) (scanning task e (rec + 1) busy) ((state t).steps + 1) (after_active task busy is
-          ∙ (ap (λ (b : Bool). record (cond b (after_record R (state t) task e rec busy) (record (state t) { stage = comparing task e rec busy })) { steps = (state t).steps + 1 }) (eq-eqb active 0 none)
-          ∙ ap (λ (s : TokenState). record s { steps = (state t).steps + 1 }) (record_waits R task w (state t) e rec busy))))
+      on_inactive task w busy is = (
+        busy,
+        with_steps (state t) (state u) (scanning task e (rec + 1) busy) ((state t).steps + 1) (after_active task busy is
+            ∙ (ap (λ (b : Bool). record (cond b (after_record R (state t) task e rec busy) (record (state t) { stage = comparing task e rec busy })) { steps = (state t).steps + 1 }) (eq-eqb active 0 none)
+            ∙ ap (λ (s : TokenState). record s { steps = (state t).steps + 1 }) (record_waits R task w (state t) e rec busy))),
+      )
 
       pub there_inactive : IsScanning client e (rec + 1) u
       there_inactive = scans_there client e rec (rec + 1) t u i made.1 same_number on_inactive
 
       pub waits_inactive : (before : List Looked) → All (λ (l : Looked). ¬ IsPast e l) before → Looks rec before t0 t → (looks : List Looked) × IsWait e looks × Looks rec looks t0 u
-      waits_inactive before others so_far = let l = looked active 0 in
-          (before ++ record { active = active; epoch = 0 } ∷ [], (before, record { active = active; epoch = 0 }, refl, others, inl none),
-            looks_more rec before (record { active = active; epoch = 0 }) t0 u (active_load active ∷ []) (look_inactive rec active 0 none)
-              (adds_one (program client) t0 t u (map further (wait_steps rec before)) (further (active_load active)) so_far made))
+      waits_inactive before others so_far = let l = looked active 0 in (
+        before ++ record { active = active; epoch = 0 } ∷ [],
+        (before, record { active = active; epoch = 0 }, refl, others, inl none),
+        looks_more rec before (record { active = active; epoch = 0 }) t0 u (active_load active ∷ []) (look_inactive rec active 0 none)
+            (adds_one (program client) t0 t u (map further (wait_steps rec before)) (further (active_load active)) so_far made),
+      )
 
     -- it was active
     module _ (some_ : active ≢ 0) where
@@ -157,15 +162,21 @@ module _ {C : Type 0} (client : Client C) (passes : Passes client) (e rec : ℕ)
 
         -- with the epoch of the round
         pub on_current : found ≡ e → ScansOn e rec (rec + 1) t v
-        on_current same task w busy is = (first_busy busy rec, with_steps (state t) (state v) (scanning task e (rec + 1) (first_busy busy rec)) ((state t).steps + 1 + 1) (after_epoch task busy is
-            ∙ (ap (λ (b : Bool). record (cond b (after_record R (compares task busy) task e rec (first_busy busy rec)) (after_blocked (compares task busy) task e rec busy)) { steps = (state t).steps + 1 + 1 }) (eq-eqb found e same)
-            ∙ ap (λ (s : TokenState). record s { steps = (state t).steps + 1 + 1 }) (record_waits R task w (compares task busy) e rec (first_busy busy rec)))))
+        on_current same task w busy is = (
+          first_busy busy rec,
+          with_steps (state t) (state v) (scanning task e (rec + 1) (first_busy busy rec)) ((state t).steps + 1 + 1) (after_epoch task busy is
+              ∙ (ap (λ (b : Bool). record (cond b (after_record R (compares task busy) task e rec (first_busy busy rec)) (after_blocked (compares task busy) task e rec busy)) { steps = (state t).steps + 1 + 1 }) (eq-eqb found e same)
+              ∙ ap (λ (s : TokenState). record s { steps = (state t).steps + 1 + 1 }) (record_waits R task w (compares task busy) e rec (first_busy busy rec)))),
+        )
 
         -- with another
         pub on_other : found ≢ e → ScansOn e rec rec t v
-        on_other other task w busy is = (busy, with_steps (state t) (state v) (scanning task e rec busy) ((state t).steps + 1 + 1) (after_epoch task busy is
-            ∙ (ap (λ (b : Bool). record (cond b (after_record R (compares task busy) task e rec (first_busy busy rec)) (after_blocked (compares task busy) task e rec busy)) { steps = (state t).steps + 1 + 1 }) (ne_eqb found e other)
-            ∙ ap (λ (s : TokenState). record s { steps = (state t).steps + 1 + 1 }) (blocked_waits task w (compares task busy) e rec busy))))
+        on_other other task w busy is = (
+          busy,
+          with_steps (state t) (state v) (scanning task e rec busy) ((state t).steps + 1 + 1) (after_epoch task busy is
+              ∙ (ap (λ (b : Bool). record (cond b (after_record R (compares task busy) task e rec (first_busy busy rec)) (after_blocked (compares task busy) task e rec busy)) { steps = (state t).steps + 1 + 1 }) (ne_eqb found e other)
+              ∙ ap (λ (s : TokenState). record s { steps = (state t).steps + 1 + 1 }) (blocked_waits task w (compares task busy) e rec busy))),
+        )
 
         pub there_current : found ≡ e → IsScanning client e (rec + 1) v
         there_current same = scans_there client e rec (rec + 1) t v i made'.1 number_too (on_current same)
@@ -179,7 +190,7 @@ module _ {C : Type 0} (client : Client C) (passes : Passes client) (e rec : ℕ)
         looks_now : (before : List Looked) → Looks rec before t0 t → Looks rec (before ++ look ∷ []) t0 v
         looks_now before so_far = looks_more rec before look t0 v (active_load active ∷ epoch_load found ∷ []) (look_active rec active found some_)
             (adds_one (program client) t0 u v (map further (wait_steps rec before) ++ further (active_load active) ∷ []) (further (epoch_load found))
-              (adds_one (program client) t0 t u (map further (wait_steps rec before)) (further (active_load active)) so_far made) made'
+            (adds_one (program client) t0 t u (map further (wait_steps rec before)) (further (active_load active)) so_far made) made'
             ∙ ap (adding t0) (append_assoc (map further (wait_steps rec before)) (further (active_load active) ∷ []) (further (epoch_load found) ∷ [])))
 
         pub waits_current : found ≡ e → (before : List Looked) → All (λ (l : Looked). ¬ IsPast e l) before → Looks rec before t0 t → (looks : List Looked) × IsWait e looks × Looks rec looks t0 v
@@ -187,8 +198,11 @@ module _ {C : Type 0} (client : Client C) (passes : Passes client) (e rec : ℕ)
 
         pub waits_other : found ≢ e → (before : List Looked) → All (λ (l : Looked). ¬ IsPast e l) before → Looks rec before t0 t
             → (looks : List Looked) × All (λ (l : Looked). ¬ IsPast e l) looks × Looks rec looks t0 v
-        waits_other other before others so_far = (before ++ look ∷ [],
-            All-push (λ (l : Looked). ¬ IsPast e l) before look others (λ p. ⊎_elim (λ (z : active ≡ 0). some_ z) (λ (z : found ≡ e). other z) p), looks_now before so_far)
+        waits_other other before others so_far = (
+          before ++ look ∷ [],
+          All-push (λ (l : Looked). ¬ IsPast e l) before look others (λ p. ⊎_elim (λ (z : active ≡ 0). some_ z) (λ (z : found ≡ e). other z) p),
+          looks_now before so_far,
+        )
 
 pub in_range : {C : Type 0} (rec : ℕ) (t0 t : Token C) (d : Table (About C)) → table t ≡ table t0 → table t0 ≡ d → rec < records_of d.origin → rec < records_of (origin t)
 in_range {C = C} rec t0 t d a b low = subst (λ (x : Table (About C)). rec < records_of x.origin) (sym (a ∙ b)) low
@@ -227,8 +241,10 @@ module _ {C : Type 0} (client : Client C) (passes : Passes client) (e rec : ℕ)
       passed_inactive none = record {
         same = same_table;
         did = waits_inactive client passes e rec t0 t h.scans low u active made none h.looks h.others h.did;
-        scans = (there_inactive client passes e rec t0 t h.scans low u active made none,
-          scans_both client e rec rec (rec + 1) t0 t u h.on (on_inactive client passes e rec t0 t h.scans low u active made none));
+        scans = (
+          there_inactive client passes e rec t0 t h.scans low u active made none,
+          scans_both client e rec rec (rec + 1) t0 t u h.on (on_inactive client passes e rec t0 t h.scans low u active made none),
+        );
       }
 
       module _ (some_ : active ≢ 0) (word' : ℕ) (is' : word' ≡ epoch_word rec) where
@@ -246,8 +262,10 @@ module _ {C : Type 0} (client : Client C) (passes : Passes client) (e rec : ℕ)
           passed_current at = record {
             same = same_too;
             did = waits_current client passes e rec t0 t h.scans low u active made some_ v found made_too at h.looks h.others h.did;
-            scans = (there_current client passes e rec t0 t h.scans low u active made some_ v found made_too at,
-              scans_both client e rec rec (rec + 1) t0 t v h.on (on_current client passes e rec t0 t h.scans low u active made some_ v found made_too at));
+            scans = (
+              there_current client passes e rec t0 t h.scans low u active made some_ v found made_too at,
+              scans_both client e rec rec (rec + 1) t0 t v h.on (on_current client passes e rec t0 t h.scans low u active made some_ v found made_too at),
+            );
           }
 
           pub still_looked : found ≢ e → HasLooked client e rec t0 v

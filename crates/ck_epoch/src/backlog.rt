@@ -116,13 +116,7 @@ impl Backlog {
         ensures count { result ≡ length (on list self.old.pending) }
         ensures total { (result + length self.new.pending ≡ length self.old.pending) × (length self.old.pending < 2 ^ 63) }
     {
-        dispatch(
-            client,
-            list,
-            &mut self.pending,
-            &mut self.waiting,
-            handler,
-        )
+        dispatch(client, list, &mut self.pending, &mut self.waiting, handler)
     }
 
     /// Dispatches all lists in order of their numbers, each in order of retirement. Answers how many items that were.

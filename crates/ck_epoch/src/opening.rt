@@ -18,11 +18,7 @@ use ck_words::Back;
 use std::alloc::{AllocError, Global};
 
 // The words at opening.
-fn opening_words<C: Client>(
-    alloc: Global,
-    client: &C,
-    records: u64,
-) -> Result<Vec<u64>, AllocError>
+fn opening_words<C: Client>(alloc: Global, client: &C, records: u64) -> Result<Vec<u64>, AllocError>
     requires records { (1 ≤ records) × (records ≤ 64) }
     requires size { C.meaning.size client.now ≤ 2 ^ 33 }
     ensures { IfOk result (λ words. AreOpening C.meaning (opened client.now records words.items)) }

@@ -27,8 +27,7 @@ impl<C: Client> Domain<C> {
     {
         self.words.store::<Brand>(token, active_word(rec), 1);
         let epoch = self.words.load::<Continues>(token, GLOBAL);
-        self.words
-            .store::<Continues>(token, epoch_word(rec), epoch);
+        self.words.store::<Continues>(token, epoch_word(rec), epoch);
     }
 
     // Sets the number of nested sections, where one is open. `O` has the name of the call.
@@ -72,8 +71,8 @@ impl<C: Client> Domain<C> {
         requires calls { pass.old.calls < 2 ^ 40 }
         requires depth { 0 < depth pass.old.token }
         ensures step { pass.new ≡ record pass.old {
-            token = adding pass.old.token (call ends [] (Store (active (rec_of pass.old.token)) (depth pass.old.token - 1) ∷ []));
-            calls = pass.old.calls + 1
+          token = adding pass.old.token (call ends [] (Store (active (rec_of pass.old.token)) (depth pass.old.token - 1) ∷ []));
+          calls = pass.old.calls + 1;
         } }
         ensures depth { depth pass.new.token ≡ depth pass.old.token - 1 }
         ensures part { IsInRun C.meaning pass.new.token }

@@ -26,15 +26,15 @@ impl Client for Counter {
     ghost use Rattle.ck_run.proofs.Own.{own-append, own_outside};
 
     ghost meaning = { record {
-        size = λ c. 1;
-        first = λ c at. 0;
-        guarded = λ c at. true;
-        follows = λ first origin n es. 0 < n → All (λ (e : Entry). (found : ℕ) × (e.step ≡ Load first found)) (own first (first + 1) es);
-        retires = λ c item. item.log == 3;
-        home = λ c item. record { shelf = 1; at = item.at; log = item.log };
-        Update = Entry;
-        log = λ first origin es. own first (first + 1) es;
-        answered = λ first origin es. 0;
+      size = λ c. 1;
+      first = λ c at. 0;
+      guarded = λ c at. true;
+      follows = λ first origin n es. 0 < n → All (λ (e : Entry). (found : ℕ) × (e.step ≡ Load first found)) (own first (first + 1) es);
+      retires = λ c item. item.log == 3;
+      home = λ c item. record { shelf = 1; at = item.at; log = item.log };
+      Update = Entry;
+      log = λ first origin es. own first (first + 1) es;
+      answered = λ first origin es. 0;
     } };
 
     fn words(&self) -> u64 {
@@ -83,17 +83,29 @@ pub(crate) fn home(item: Item) -> Back
     }
 }
 
-const BLOCK: Item = Item { at: 8, log: 3 };
+pub(crate) const BLOCK: Item = Item { at: 8, log: 3 };
 
 #[test]
 fn gives_back_once_the_older_section_ended(rt: HostRuntime) -> Result<(), Fail> {
-    let (domain, mut writer, mut passes) =
-        Domain::new(rt.alloc(), Counter, 1, 4, |item: Item| home(item))?;
+    let (domain, mut writer, mut passes) = Domain::new(
+        rt.alloc(),
+        Counter,
+        1,
+        4,
+        |item: Item| home(item),
+    )?;
     let mut pass = passes.pop().unwrap();
     domain.begin(&mut pass);
     domain.call::<Brand, _>(&mut writer, BLOCK);
     assert_eq!(rt; domain.poll(&mut writer), Poll::Moved { n: 0, rec: 0 });
-    assert_eq!(rt; domain.poll(&mut writer), Poll::Blocked { n: 0, rec: 0, epoch: 4 });
+    assert_eq!(rt;
+        domain.poll(&mut writer),
+        Poll::Blocked {
+            n: 0,
+            rec: 0,
+            epoch: 4
+        }
+    );
     domain.end(&mut pass);
     assert_eq!(rt; domain.poll(&mut writer), Poll::Clear { n: 1 });
     assert_eq!(rt; (writer.pending(), writer.waiting()), (0, 1));
@@ -104,24 +116,48 @@ fn gives_back_once_the_older_section_ended(rt: HostRuntime) -> Result<(), Fail> 
 
 #[test]
 fn waits_for_the_outermost_section(rt: HostRuntime) -> Result<(), Fail> {
-    let (domain, mut writer, mut passes) =
-        Domain::new(rt.alloc(), Counter, 1, 4, |item: Item| home(item))?;
+    let (domain, mut writer, mut passes) = Domain::new(
+        rt.alloc(),
+        Counter,
+        1,
+        4,
+        |item: Item| home(item),
+    )?;
     let mut pass = passes.pop().unwrap();
     domain.begin(&mut pass);
     domain.begin(&mut pass);
     domain.call::<Brand, _>(&mut writer, BLOCK);
     assert_eq!(rt; domain.poll(&mut writer), Poll::Moved { n: 0, rec: 0 });
-    assert_eq!(rt; domain.poll(&mut writer), Poll::Blocked { n: 0, rec: 0, epoch: 4 });
+    assert_eq!(rt;
+        domain.poll(&mut writer),
+        Poll::Blocked {
+            n: 0,
+            rec: 0,
+            epoch: 4
+        }
+    );
     domain.end(&mut pass);
     assert_eq!(rt; (pass.rec(), pass.depth(), pass.calls()), (0, 1, 3));
-    assert_eq!(rt; domain.poll(&mut writer), Poll::Blocked { n: 0, rec: 0, epoch: 4 });
+    assert_eq!(rt;
+        domain.poll(&mut writer),
+        Poll::Blocked {
+            n: 0,
+            rec: 0,
+            epoch: 4
+        }
+    );
     Ok(())
 }
 
 #[test]
 fn gives_back_beside_a_younger_section(rt: HostRuntime) -> Result<(), Fail> {
-    let (domain, mut writer, mut passes) =
-        Domain::new(rt.alloc(), Counter, 1, 4, |item: Item| home(item))?;
+    let (domain, mut writer, mut passes) = Domain::new(
+        rt.alloc(),
+        Counter,
+        1,
+        4,
+        |item: Item| home(item),
+    )?;
     let mut pass = passes.pop().unwrap();
     domain.begin(&mut pass);
     domain.call::<Brand, _>(&mut writer, BLOCK);

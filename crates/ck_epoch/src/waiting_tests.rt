@@ -1,8 +1,9 @@
-ghost use Rattle.std.specs.Prelude.{◌≡◌, ◌<◌, ◌^◌, length};
+ghost use Rattle.std.specs.Prelude.{◌≡◌, ◌+◌, ◌<◌, ◌^◌, ◌==◌, length};
 ghost use Rattle.ck_run.specs.Tokens.{table};
 ghost use Rattle.ck_epoch.specs.State.{state, depth};
+ghost use Rattle.ck_epoch.specs.Lists.{Answers};
 
-use crate::tests::{Counter, home};
+use crate::tests::{BLOCK, Counter, home};
 use crate::{Domain, Item, Pass, Poll, Writer};
 use ck_words::Back;
 use std::marker::Brand;
@@ -14,26 +15,39 @@ use std::thread::join_mut;
 
 #[test]
 fn barrier_gives_back_what_is_pending(rt: HostRuntime) -> Result<(), Fail> {
-    let (domain, mut writer, mut passes) = Domain::new(rt.alloc(), Counter, 1, 4, |item: Item| home(item))?;
+    let (domain, mut writer, mut passes) = Domain::new(
+        rt.alloc(),
+        Counter,
+        1,
+        4,
+        |item: Item| home(item),
+    )?;
     let mut pass = passes.pop().unwrap();
-    domain.call::<Brand, _>(&mut writer, Item { at: 8, log: 3 });
-    let count = domain.barrier(&rt, &mut writer);
-    let back = domain.next_back(&mut writer);
-    let none = domain.next_back(&mut writer);
+    domain.call::<Brand, _>(&mut writer, BLOCK);
+    assert_eq!(rt; domain.barrier(&rt, &mut writer), 1);
+    assert_eq!(rt; domain.next_back(&mut writer), Some(home(BLOCK)));
+    assert_eq!(rt; domain.next_back(&mut writer), None);
     domain.begin(&mut pass);
     domain.call::<Brand, _>(&mut writer, Item { at: 16, log: 3 });
-    let moved = domain.poll(&mut writer);
-    let blocked = domain.poll(&mut writer);
-    assert_eq!(rt; count, 1);
-    assert_eq!(rt; back, Some(home(Item { at: 8, log: 3 })));
-    assert_eq!(rt; none, None);
-    assert_eq!(rt; moved, Poll::Moved { n: 0, rec: 0 });
-    assert_eq!(rt; blocked, Poll::Blocked { n: 0, rec: 0, epoch: 6 });
+    assert_eq!(rt; domain.poll(&mut writer), Poll::Moved { n: 0, rec: 0 });
+    assert_eq!(rt;
+        domain.poll(&mut writer),
+        Poll::Blocked {
+            n: 0,
+            rec: 0,
+            epoch: 6
+        }
+    );
     Ok(())
 }
 
 // Holds a section open for a while, and tells when it is about to end it.
-fn hold_open(domain: &Domain<Counter>, pass: &mut Pass<Counter>, inside: &AtomicU64, over: &AtomicU64)
+fn hold_open(
+    domain: &Domain<Counter>,
+    pass: &mut Pass<Counter>,
+    inside: &AtomicU64,
+    over: &AtomicU64,
+)
     requires table { table pass.old.token ≡ domain.now }
     requires closed { (depth pass.old.token ≡ 0) × (pass.old.calls < 2 ^ 16) }
 {
@@ -53,13 +67,18 @@ fn give_back<R: Wait, F: Fn(Item) -> Back>(
     writer: &mut Writer<Counter, F>,
     inside: &AtomicU64,
     over: &AtomicU64,
-) -> (u64, Option<Back>, u64) {
+) -> (u64, Option<Back>, u64)
+    requires table { table writer.old.token ≡ domain.now }
+    requires calls { writer.old.calls < 2 ^ 16 }
+    requires room { length (state writer.old.token).pending + length writer.old.waiting < writer.old.room }
+    requires handler { Answers (λ i. i.log == 3) (λ i. record { shelf = 1; at = i.at; log = i.log }) (F.pre writer.old.handler) (F.post writer.old.handler) }
+{
     for _ in rt.forever() {
         if inside.load(SeqCst) == 1 {
             break;
         }
     }
-    domain.call::<Brand, _>(writer, Item { at: 8, log: 3 });
+    domain.call::<Brand, _>(writer, BLOCK);
     let count = domain.barrier(rt, writer);
     let ended = over.load(SeqCst);
     (count, domain.next_back(writer), ended)
@@ -67,7 +86,13 @@ fn give_back<R: Wait, F: Fn(Item) -> Back>(
 
 #[test]
 fn barrier_waits_for_the_open_section(rt: HostRuntime) -> Result<(), Fail> {
-    let (domain, mut writer, mut passes) = Domain::new(rt.alloc(), Counter, 1, 4, |item: Item| home(item))?;
+    let (domain, mut writer, mut passes) = Domain::new(
+        rt.alloc(),
+        Counter,
+        1,
+        4,
+        |item: Item| home(item),
+    )?;
     let mut pass = passes.pop().unwrap();
     let inside = AtomicU64::new(0);
     let over = AtomicU64::new(0);
@@ -76,6 +101,6 @@ fn barrier_waits_for_the_open_section(rt: HostRuntime) -> Result<(), Fail> {
         &mut || hold_open(&domain, &mut pass, &inside, &over),
         &mut || give_back(&rt, &domain, &mut writer, &inside, &over),
     );
-    assert_eq!(rt; given, (1, Some(home(Item { at: 8, log: 3 })), 1));
+    assert_eq!(rt; given, (1, Some(home(BLOCK)), 1));
     Ok(())
 }

@@ -70,8 +70,8 @@ impl<C: Client> Domain<C> {
         requires name { (O.opens ≡ []) ⊎ (O.opens ≡ retire ∷ item.at ∷ item.log ∷ []) }
         requires client { IsWriting C.meaning writer.old.token → (n : ℕ) → n < 2 ^ 64 → MayFollow C.meaning writer.old.token (handing O.opens (item.at ∷ item.log ∷ []) (Load 0 n)) }
         ensures step { writer.new ≡ record writer.old {
-            token = adding writer.old.token (handing O.opens (item.at ∷ item.log ∷ []) (Load 0 (state writer.old.token).epoch) ∷ []);
-            calls = writer.old.calls + 1
+          token = adding writer.old.token (handing O.opens (item.at ∷ item.log ∷ []) (Load 0 (state writer.old.token).epoch) ∷ []);
+          calls = writer.old.calls + 1;
         } }
         ensures pending { queue (state writer.new.token).pending ≡ queue (state writer.old.token).pending ++ record { item = item; epoch = (state writer.old.token).epoch } ∷ [] }
         ensures epoch { (state writer.new.token).epoch ≡ (state writer.old.token).epoch }

@@ -20,4 +20,4 @@ loop-at-preserved g c = client_more c.args.records c.words-size.result (g.C.Clie
 pub returns : goal.returns
 returns g c = are_opening g.C.Client.meaning c.args.client.now c.args.records c.loop-at.words.items c.requires.records.0
     (subst (λ (n : ℕ). AreFirst c.args.records n (g.C.Client.meaning.first c.args.client.now) c.args.records n c.loop-at.words.items) c.words-size.ensures
-      (subst (λ (k : ℕ). AreFirst c.args.records c.words-size.result (g.C.Client.meaning.first c.args.client.now) c.args.records k c.loop-at.words.items) (omega (arith, c.loop-at-test.false, c.loop-at.auto.at-end)) c.loop-at.invariant))
+    (subst (λ (k : ℕ). AreFirst c.args.records c.words-size.result (g.C.Client.meaning.first c.args.client.now) c.args.records k c.loop-at.words.items) (omega (arith, c.loop-at-test.false, c.loop-at.auto.at-end)) c.loop-at.invariant))

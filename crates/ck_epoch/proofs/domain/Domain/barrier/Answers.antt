@@ -29,7 +29,7 @@ invariant_of-writer g c =
     let none = ap (λ (b : Backlog). b.pending) c.dispatch_all.ensures.backlog in
     let retires = g.C.Client.meaning.retires (origin t).config.client in (
       writer_after g.C.Client.meaning t c.writer.inside.backlog w u true (state u).steps e.part e.table same is c.dispatch_all.new.self none
-        (subst (AreRetired retires) (sym none) (All-nil (λ (r : Retired). retires r.item ≡ true))),
+          (subst (AreRetired retires) (sym none) (All-nil (λ (r : Retired). retires r.item ≡ true))),
       counts_more g.C.Client.meaning t c.writer.inside.backlog w u true (state u).steps e.part e.table same is c.writer.inside.calls c.writer.invariant.1,
     )
 
@@ -49,7 +49,7 @@ returns-clause-ended g c =
     let steps = (e.steps barrier refl).4 in
     let free = is_free g.C.Client.meaning t c.writer.inside.backlog w c.writer.inside.calls c.writer.invariant.1 (subst (λ w. w.calls < 2 ^ 40) (sym c.writer.view_is) c.requires.calls) in
     subst (λ (x : Token _). HaveEnded g.C.Client.meaning x u) (ap (λ w. w.token) c.writer.view_is)
-      (have_ended g.C.Client.meaning g.met.C.Client.passes t u (state u).steps true free (ap origin steps) (ap number steps ∙ w.first) (e.state true refl))
+    (have_ended g.C.Client.meaning g.met.C.Client.passes t u (state u).steps true free (ap origin steps) (ap number steps ∙ w.first) (e.state true refl))
 
 pub returns-clause-pending : goal.returns-clause-pending
 returns-clause-pending g c = ap (λ (s : TokenState). s.pending) (c.two_rounds.ensures.state true refl)

@@ -20,5 +20,5 @@ returns-clause-run g c =
     let low : k ≤ length words = omega (arith, c.base_word-base.ensures, c.self.invariant.words.long, told) in
     let n : c.len.result - k ≡ length words - k = omega (arith, c.len.ensures, c.close-left.result.ok) in
     subst (λ (t : Token _). IsClosedDomain g.C.Client.meaning t c.args.passes.items c.truncate.new.self.items) view
-      (closed_domain g.C.Client.meaning w c.args.passes.items c.args.self c.join_all.new.token.view words c.truncate.new.self.items c.join_all.ensures.view here c.requires.passes c.close-left.ensures.run
-        (subst (λ (m : ℕ). c.truncate.new.self.items ≡ drop m words) base_is (left_behind k (c.len.result - k) words c.rotate_left.new.self.items c.truncate.new.self.items low n c.rotate_left.ensures.items c.truncate.ensures.items)))
+    (closed_domain g.C.Client.meaning w c.args.passes.items c.args.self c.join_all.new.token.view words c.truncate.new.self.items c.join_all.ensures.view here c.requires.passes c.close-left.ensures.run
+    (subst (λ (m : ℕ). c.truncate.new.self.items ≡ drop m words) base_is (left_behind k (c.len.result - k) words c.rotate_left.new.self.items c.truncate.new.self.items low n c.rotate_left.ensures.items c.truncate.ensures.items)))

@@ -31,5 +31,5 @@ loop-rec-preserved g c =
       room = omega (arith, c.push_reserved.ensures.capacity, c.loop-rec.invariant.room);
       new = subst (λ (l : List (Pass _)). AreFresh w 1 l) (sym c.push_reserved.ensures.items)
           (fresh_snoc w 1 c.loop-rec.passes.items _ c.loop-rec.invariant.new
-            (ap (λ (t : _). record { token = t; calls = 0; tally = 0 }) (c.part-other.ensures.part ∙ (p.right ∙ ap (fresh w) more))));
+          (ap (λ (t : _). record { token = t; calls = 0; tally = 0 }) (c.part-other.ensures.part ∙ (p.right ∙ ap (fresh w) more))));
     }

@@ -30,8 +30,8 @@ invariant_of-writer-in-Current g c =
     let did = c.in-Current.ensures.outcome t c.start_poll-epoch.ensures.scanning in
     let left = c.dispatch_list-before.ensures.backlog in let rest = c.dispatch_list-rest.ensures.backlog in (
       writer_after meaning t b inv about config c.scan.new.token _ _ c.dispatch_list-rest.new.self did.1 (ap (λ (x : Token g.row.C.Denot). (origin x).config) did.0.steps ∙ config)
-      (rest_queue meaning t b inv about config _ c.dispatch_list-before.new.self left _ c.dispatch_list-rest.new.self rest)
-      (rest_retired meaning t b inv about config _ c.dispatch_list-before.new.self left _ c.dispatch_list-rest.new.self rest),
+          (rest_queue meaning t b inv about config _ c.dispatch_list-before.new.self left _ c.dispatch_list-rest.new.self rest)
+          (rest_retired meaning t b inv about config _ c.dispatch_list-before.new.self left _ c.dispatch_list-rest.new.self rest),
       calls_after meaning t b inv about config c.scan.new.token _ c.writer.inside.calls _ did.1 c.writer.invariant.1,
     )
 
@@ -44,8 +44,8 @@ invariant_of-writer-in-Behind g c =
     let did = c.in-Behind.ensures.outcome t c.start_poll-epoch.ensures.scanning in
     let left = c.dispatch_list-before.ensures.backlog in (
       writer_after meaning t b inv about config c.scan.new.token _ _ c.dispatch_list-before.new.self did.1 (ap (λ (x : Token g.row.C.Denot). (origin x).config) did.0.steps ∙ config)
-      (left_queue meaning t b inv about config _ c.dispatch_list-before.new.self left)
-      (left_retired meaning t b inv about config _ c.dispatch_list-before.new.self left),
+          (left_queue meaning t b inv about config _ c.dispatch_list-before.new.self left)
+          (left_retired meaning t b inv about config _ c.dispatch_list-before.new.self left),
       calls_after meaning t b inv about config c.scan.new.token _ c.writer.inside.calls _ did.1 c.writer.invariant.1,
     )
 

@@ -34,8 +34,8 @@ exchange-requires-clause-table g c = c.loop-rec.invariant.same ∙ (c.requires.t
 pub exchange-requires-clause-may : goal.exchange-requires-clause-may
 exchange-requires-clause-may g c n b = may_raise g.C.Client.meaning g.met.C.Client.passes c.args.epoch c.args.token.now c.loop-rec.token
     (subst (λ (k : ℕ). HasWaited g.C.Client.meaning c.args.epoch k c.args.token.now c.loop-rec.token)
-      (all_records c.args.token.now c.loop-rec.token c.args.self.now c.self.inside.words c.self.inside.about c.loop-rec.invariant.same c.requires.table c.self.view_is c.self.invariant.told
-        c.loop-rec.rec c.loop-rec-test.false c.loop-rec.auto.rec-end) c.loop-rec.invariant) n
+    (all_records c.args.token.now c.loop-rec.token c.args.self.now c.self.inside.words c.self.inside.about c.loop-rec.invariant.same c.requires.table c.self.view_is c.self.invariant.told
+    c.loop-rec.rec c.loop-rec-test.false c.loop-rec.auto.rec-end) c.loop-rec.invariant) n
 
 pub returns-clause-table : goal.returns-clause-table
 returns-clause-table g c = c.exchange.ensures.table ∙ c.loop-rec.invariant.same
@@ -44,17 +44,17 @@ pub returns-clause-steps : goal.returns-clause-steps
 returns-clause-steps g c =
     let same = c.loop-rec.invariant.same in
     subst (λ (k : ℕ). (steps : List Step) × IsRound k c.args.epoch (Load 0 c.args.epoch ∷ steps) × (c.exchange.new.token ≡ adding c.args.token.now (map further steps)))
-      (records_here c.args.token.now c.loop-rec.token c.args.self.now c.self.inside.words c.self.inside.about same c.requires.table c.self.view_is c.self.invariant.told)
-      (round_steps g.C.Client.meaning g.met.C.Client.passes c.args.epoch c.args.token.now c.loop-rec.token
-        (subst (λ (k : ℕ). HasWaited g.C.Client.meaning c.args.epoch k c.args.token.now c.loop-rec.token)
-          (all_records c.args.token.now c.loop-rec.token c.args.self.now c.self.inside.words c.self.inside.about same c.requires.table c.self.view_is c.self.invariant.told
-            c.loop-rec.rec c.loop-rec-test.false c.loop-rec.auto.rec-end) c.loop-rec.invariant)
-        c.exchange.new.token c.exchange.result c.exchange.ensures.step)
+    (records_here c.args.token.now c.loop-rec.token c.args.self.now c.self.inside.words c.self.inside.about same c.requires.table c.self.view_is c.self.invariant.told)
+    (round_steps g.C.Client.meaning g.met.C.Client.passes c.args.epoch c.args.token.now c.loop-rec.token
+    (subst (λ (k : ℕ). HasWaited g.C.Client.meaning c.args.epoch k c.args.token.now c.loop-rec.token)
+    (all_records c.args.token.now c.loop-rec.token c.args.self.now c.self.inside.words c.self.inside.about same c.requires.table c.self.view_is c.self.invariant.told
+    c.loop-rec.rec c.loop-rec-test.false c.loop-rec.auto.rec-end) c.loop-rec.invariant)
+    c.exchange.new.token c.exchange.result c.exchange.ensures.step)
 
 pub returns-clause-state : goal.returns-clause-state
 returns-clause-state g c =
     round_state g.C.Client.meaning g.met.C.Client.passes c.args.epoch c.args.token.now c.loop-rec.token
-      (subst (λ (k : ℕ). HasWaited g.C.Client.meaning c.args.epoch k c.args.token.now c.loop-rec.token)
-        (all_records c.args.token.now c.loop-rec.token c.args.self.now c.self.inside.words c.self.inside.about c.loop-rec.invariant.same c.requires.table c.self.view_is c.self.invariant.told
-          c.loop-rec.rec c.loop-rec-test.false c.loop-rec.auto.rec-end) c.loop-rec.invariant)
-      c.exchange.new.token c.exchange.result c.exchange.ensures.step
+    (subst (λ (k : ℕ). HasWaited g.C.Client.meaning c.args.epoch k c.args.token.now c.loop-rec.token)
+    (all_records c.args.token.now c.loop-rec.token c.args.self.now c.self.inside.words c.self.inside.about c.loop-rec.invariant.same c.requires.table c.self.view_is c.self.invariant.told
+    c.loop-rec.rec c.loop-rec-test.false c.loop-rec.auto.rec-end) c.loop-rec.invariant)
+    c.exchange.new.token c.exchange.result c.exchange.ensures.step

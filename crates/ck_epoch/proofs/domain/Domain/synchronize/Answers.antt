@@ -43,7 +43,7 @@ returns-clause-ended g c =
     let steps = (e.steps synchronize refl).4 in
     let free = is_free g.C.Client.meaning t c.writer.inside.backlog w c.writer.inside.calls c.writer.invariant.1 (subst (λ w. w.calls < 2 ^ 40) (sym c.writer.view_is) c.requires.calls) in
     subst (λ (x : Token _). HaveEnded g.C.Client.meaning x u) (ap (λ w. w.token) c.writer.view_is)
-      (have_ended g.C.Client.meaning g.met.C.Client.passes t u (state u).steps false free (ap origin steps) (ap number steps ∙ w.first) (e.state false refl))
+    (have_ended g.C.Client.meaning g.met.C.Client.passes t u (state u).steps false free (ap origin steps) (ap number steps ∙ w.first) (e.state false refl))
 
 pub returns-clause-pending : goal.returns-clause-pending
 returns-clause-pending g c = ap (λ (s : TokenState). s.pending) (c.two_rounds.ensures.state false refl) ∙ ap (λ w. (state w.token).pending) c.writer.view_is

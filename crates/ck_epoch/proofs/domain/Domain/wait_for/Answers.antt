@@ -14,7 +14,7 @@ pub load-active-requires-clause-may : goal.load-active-requires-clause-may
 load-active-requires-clause-may g c n b =
     let h = c.loop.invariant in
     may_look g.C.Client.meaning g.met.C.Client.passes c.args.epoch c.args.rec c.args.token.now c.loop.token h (in_range c.args.rec c.args.token.now c.loop.token c.args.self.now h.same c.requires.table c.requires.rec)
-      c.active_word.result c.active_word.ensures n
+    c.active_word.result c.active_word.ensures n
 
 pub returns-then-active-eq0-clause-table : goal.returns-then-active-eq0-clause-table
 returns-then-active-eq0-clause-table g c = c.load-active.ensures.table ∙ c.loop.invariant.same
@@ -23,13 +23,13 @@ pub returns-then-active-eq0-clause-steps : goal.returns-then-active-eq0-clause-s
 returns-then-active-eq0-clause-steps g c =
     let h = c.loop.invariant in
     (passed_inactive g.C.Client.meaning g.met.C.Client.passes c.args.epoch c.args.rec c.args.token.now c.loop.token h (in_range c.args.rec c.args.token.now c.loop.token c.args.self.now h.same c.requires.table c.requires.rec)
-      c.active_word.result c.active_word.ensures c.load-active.new.token c.load-active.result c.load-active.ensures.step c.if-active-eq0.true).did
+    c.active_word.result c.active_word.ensures c.load-active.new.token c.load-active.result c.load-active.ensures.step c.if-active-eq0.true).did
 
 pub returns-then-active-eq0-clause-scans : goal.returns-then-active-eq0-clause-scans
 returns-then-active-eq0-clause-scans g c =
     let h = c.loop.invariant in
     (passed_inactive g.C.Client.meaning g.met.C.Client.passes c.args.epoch c.args.rec c.args.token.now c.loop.token h (in_range c.args.rec c.args.token.now c.loop.token c.args.self.now h.same c.requires.table c.requires.rec)
-      c.active_word.result c.active_word.ensures c.load-active.new.token c.load-active.result c.load-active.ensures.step c.if-active-eq0.true).scans
+    c.active_word.result c.active_word.ensures c.load-active.new.token c.load-active.result c.load-active.ensures.step c.if-active-eq0.true).scans
 
 pub load-found-requires-clause-table : goal.load-found-requires-clause-table
 load-found-requires-clause-table g c = c.load-active.ensures.table ∙ (c.loop.invariant.same ∙ (c.requires.table ∙ sym c.self.view_is))
@@ -38,7 +38,7 @@ pub load-found-requires-clause-may : goal.load-found-requires-clause-may
 load-found-requires-clause-may g c n b =
     let h = c.loop.invariant in
     may_compare g.C.Client.meaning g.met.C.Client.passes c.args.epoch c.args.rec c.args.token.now c.loop.token h (in_range c.args.rec c.args.token.now c.loop.token c.args.self.now h.same c.requires.table c.requires.rec)
-      c.active_word.result c.active_word.ensures c.load-active.new.token c.load-active.result c.load-active.ensures.step c.if-active-eq0.false c.epoch_word.result c.epoch_word.ensures n
+    c.active_word.result c.active_word.ensures c.load-active.new.token c.load-active.result c.load-active.ensures.step c.if-active-eq0.false c.epoch_word.result c.epoch_word.ensures n
 
 pub returns-then-found-epoch-clause-table : goal.returns-then-found-epoch-clause-table
 returns-then-found-epoch-clause-table g c = c.load-found.ensures.table ∙ (c.load-active.ensures.table ∙ c.loop.invariant.same)
@@ -47,19 +47,19 @@ pub returns-then-found-epoch-clause-steps : goal.returns-then-found-epoch-clause
 returns-then-found-epoch-clause-steps g c =
     let h = c.loop.invariant in
     (passed_current g.C.Client.meaning g.met.C.Client.passes c.args.epoch c.args.rec c.args.token.now c.loop.token h (in_range c.args.rec c.args.token.now c.loop.token c.args.self.now h.same c.requires.table c.requires.rec)
-      c.active_word.result c.active_word.ensures c.load-active.new.token c.load-active.result c.load-active.ensures.step c.if-active-eq0.false c.epoch_word.result c.epoch_word.ensures
-      c.load-found.new.token c.load-found.result c.load-found.ensures.step c.if-found-epoch.true).did
+    c.active_word.result c.active_word.ensures c.load-active.new.token c.load-active.result c.load-active.ensures.step c.if-active-eq0.false c.epoch_word.result c.epoch_word.ensures
+    c.load-found.new.token c.load-found.result c.load-found.ensures.step c.if-found-epoch.true).did
 
 pub returns-then-found-epoch-clause-scans : goal.returns-then-found-epoch-clause-scans
 returns-then-found-epoch-clause-scans g c =
     let h = c.loop.invariant in
     (passed_current g.C.Client.meaning g.met.C.Client.passes c.args.epoch c.args.rec c.args.token.now c.loop.token h (in_range c.args.rec c.args.token.now c.loop.token c.args.self.now h.same c.requires.table c.requires.rec)
-      c.active_word.result c.active_word.ensures c.load-active.new.token c.load-active.result c.load-active.ensures.step c.if-active-eq0.false c.epoch_word.result c.epoch_word.ensures
-      c.load-found.new.token c.load-found.result c.load-found.ensures.step c.if-found-epoch.true).scans
+    c.active_word.result c.active_word.ensures c.load-active.new.token c.load-active.result c.load-active.ensures.step c.if-active-eq0.false c.epoch_word.result c.epoch_word.ensures
+    c.load-found.new.token c.load-found.result c.load-found.ensures.step c.if-found-epoch.true).scans
 
 pub loop-preserved : goal.loop-preserved
 loop-preserved g c =
     let h = c.loop.invariant in
     still_looked g.C.Client.meaning g.met.C.Client.passes c.args.epoch c.args.rec c.args.token.now c.loop.token h (in_range c.args.rec c.args.token.now c.loop.token c.args.self.now h.same c.requires.table c.requires.rec)
-      c.active_word.result c.active_word.ensures c.load-active.new.token c.load-active.result c.load-active.ensures.step c.if-active-eq0.false c.epoch_word.result c.epoch_word.ensures
-      c.load-found.new.token c.load-found.result c.load-found.ensures.step c.if-found-epoch.false
+    c.active_word.result c.active_word.ensures c.load-active.new.token c.load-active.result c.load-active.ensures.step c.if-active-eq0.false c.epoch_word.result c.epoch_word.ensures
+    c.load-found.new.token c.load-found.result c.load-found.ensures.step c.if-found-epoch.false
