@@ -18,7 +18,7 @@ use Rattle.ck_epoch.specs.State.{Origin, base_of}
 use Rattle.ck_epoch.specs.Client.{Client, LogGrows, AnsweredRises, IsClientOpening}
 use Rattle.ck_signal.specs.declared.signals.Signals.{Signals}
 use Rattle.ck_signal.specs.Words.{applied_word, answered_word, size_with}
-use Rattle.ck_signal.specs.Signals.{readers, grow, own_size, log_of, answers_of, IsMark, IsReached, IsNote, IsAnswered, IsSignal, MaySignal, signals}
+use Rattle.ck_signal.specs.Signals.{readers, grow, own_size, log_of, answers_of, IsMark, IsReached, IsNote, IsAnswered, IsRead, IsSignal, MaySignal, signals}
 use Rattle.ck_signal.specs.Told.{applied, answered, log_in, answers_in, IsTold}
 use Rattle.ck_signal.proofs.Growing.{run_rises, longer}
 
@@ -124,11 +124,13 @@ module _ {C : Type 0} (client : Client C) (grows : LogGrows client) (rises : Ans
       (λ (same : r ≡ q). subst (λ (i : ℕ). get_or (set words word k) (answered client origin i) 0 ≤ answers_in client origin past i) same (subst (λ (z : ℕ). z ≤ answers_in client origin past r) (sym here) told))
       (λ (other : r ≢ q). subst (λ (z : ℕ). z ≤ answers_in client origin past q) (sym (get_or-set_other words word (answered client origin q) k 0 (λ is. other (omega arith)))) (h.told.answers q few))))
 
-  signalled : IsMark client (base_of origin) origin a e ⊎ (IsReached client (base_of origin) origin a e ⊎ (IsNote client (base_of origin) origin a e ⊎ IsAnswered client (base_of origin) origin a e))
+  signalled : IsMark client (base_of origin) origin a e ⊎ (IsReached client (base_of origin) origin a e ⊎ (IsNote client (base_of origin) origin a e ⊎ (IsAnswered client (base_of origin) origin a e ⊎ IsRead origin a e)))
       → Keeps (words_after words e.step)
   signalled c = ⊎_elim marked
       (λ c. ⊎_elim (λ (m : IsReached client (base_of origin) origin a e). loads (applied client origin) m.1 (ap (λ (x : Entry). x.step) m.3))
-      (λ c. ⊎_elim noted (λ (m : IsAnswered client (base_of origin) origin a e). loads (answered client origin m.0) m.1 (ap (λ (x : Entry). x.step) m.4)) c) c) c
+      (λ c. ⊎_elim noted
+      (λ c. ⊎_elim (λ (m : IsAnswered client (base_of origin) origin a e). loads (answered client origin m.0) m.1 (ap (λ (x : Entry). x.step) m.4))
+      (λ (m : IsRead origin a e). loads (base_of origin + m.0) m.1 (ap (λ (x : Entry). x.step) m.3)) c) c) c) c
 
   each_keeps : MaySignal client (base_of origin) origin a e → Keeps (words_after words e.step)
   each_keeps may = ⊎_elim

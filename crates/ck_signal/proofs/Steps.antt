@@ -92,7 +92,7 @@ module _ {C : Type 0} (client : Client C) where
         → MayFollow (signals client) t (entry opens (Load (base_of o + word) found))
     may_ask passes opens r found low name w writing = may_signal passes t opens (Load (base_of o + word) found) writing.part
         (let high : base_of o + own_size client o ≤ base_of o + word = omega arith in subst (λ (p : Origin (Signals C)). base_of p + own_size client p ≤ base_of o + word) (sym same) high)
-        (λ s. inr (inr (inr (r, found, writing.first, subst (λ (p : Origin (Signals C)). r < readers p) (sym same) low, is_asked opens r found name w ∙ ap (λ (p : Origin (Signals C)). asks (answered client p r) r found) (sym same)))))
+        (λ s. inr (inr (inr (inl (r, found, writing.first, subst (λ (p : Origin (Signals C)). r < readers p) (sym same) low, is_asked opens r found name w ∙ ap (λ (p : Origin (Signals C)). asks (answered client p r) r found) (sym same))))))
 
   -- the last step of an account, on a signal word, was one of the calls
   made_signal : (t : Token (Signals C)) (e : Entry) → IsInRun (signals client) (adding t (e ∷ [])) → MaySignal client (base_of (origin t)) (origin t) t.view.own e
@@ -105,12 +105,12 @@ module _ {C : Type 0} (client : Client C) where
   -- by whom: a reader loads `applied`, and the writer loads `answered`
   by_reader : (a : Account) (o : Origin (Signals C)) (n found : ℕ) → MaySignal client (base_of o) o a (reaches (applied client o) n found) → 0 < a.number
   by_reader a o n found may = ⊎_elim (λ m. absurd (let s = ap (λ (x : Entry). x.step) m.1 in cc))
-      (λ c. ⊎_elim (λ m. m.2) (λ c. ⊎_elim (λ m. absurd (let s = ap (λ (x : Entry). x.step) m.3 in cc)) (λ m. absurd (let s = ap (λ (x : Entry). slice_index x.opens 0) m.4 in omega arith)) c) c)
+      (λ c. ⊎_elim (λ m. m.2) (λ c. ⊎_elim (λ m. absurd (let s = ap (λ (x : Entry). x.step) m.3 in cc)) (λ c. ⊎_elim (λ m. absurd (let s = ap (λ (x : Entry). slice_index x.opens 0) m.4 in omega arith)) (λ m. m.2) c) c) c)
       (may (omega arith, omega arith))
 
   by_writer : (a : Account) (o : Origin (Signals C)) (r found : ℕ) → r < readers o → MaySignal client (base_of o) o a (asks (answered client o r) r found) → a.number ≡ 0
   by_writer a o r found low may = ⊎_elim (λ m. absurd (let s = ap (λ (x : Entry). x.step) m.1 in cc))
-      (λ c. ⊎_elim (λ m. absurd (let s = ap (λ (x : Entry). slice_index x.opens 0) m.3 in omega arith)) (λ c. ⊎_elim (λ m. absurd (let s = ap (λ (x : Entry). x.step) m.3 in cc)) (λ m. m.2) c) c)
+      (λ c. ⊎_elim (λ m. absurd (let s = ap (λ (x : Entry). slice_index x.opens 0) m.3 in omega arith)) (λ c. ⊎_elim (λ m. absurd (let s = ap (λ (x : Entry). x.step) m.3 in cc)) (λ c. ⊎_elim (λ m. m.2) (λ m. absurd (let s = ap (λ (x : Entry). slice_index x.opens 0) m.3 in omega arith)) c) c) c)
       (may (omega arith, omega arith))
 
   -- What the two loads tell, by the law
@@ -122,16 +122,16 @@ module _ {C : Type 0} (client : Client C) where
     o = origin t
 
     seen_then : (n found : ℕ) → IsInRun (signals client) (adding t (reaches (applied client o) n found ∷ [])) → n ≤ found → HasSeen client (adding t (reaches (applied client o) n found ∷ [])) n
-    seen_then n found part enough past rest run mine =
+    seen_then n found part enough past rest more run mine =
         let e : Entry = reaches (applied client o) n found in
-        let s = split (number t) past (did t) e mine in
+        let s = split (number t) past (did t) e more (mine ∙ append_assoc (did t) (e ∷ []) more) in
         let rec : number t ≡ suc (number t - 1) = let other = by_reader t.view.own o n found (made_signal t e part) in omega arith in
         law.reached o past rest (number t - 1) n run (s.past, s.rest, found, (s.parts ∙ ap (λ (k : ℕ). s.past ++ (k, e) ∷ s.rest) rec), enough)
 
     told_then : (r k : ℕ) → r < readers o → IsInRun (signals client) (adding t (asks (answered client o r) r k ∷ [])) → HasBeenTold client (adding t (asks (answered client o r) r k ∷ [])) r k (length (log client t))
-    told_then r k low part past rest run mine =
+    told_then r k low part past rest more run mine =
         let e : Entry = asks (answered client o r) r k in
-        let s = split (number t) past (did t) e mine in
+        let s = split (number t) past (did t) e more (mine ∙ append_assoc (did t) (e ∷ []) more) in
         let first : number t ≡ 0 = by_writer t.view.own o r k low (made_signal t e part) in
         let parts : past ≡ s.past ++ (0, e) ∷ s.rest = s.parts ∙ ap (λ (n : ℕ). s.past ++ (n, e) ∷ s.rest) first in
         let whole : past ++ rest ≡ s.past ++ (0, e) ∷ (s.rest ++ rest) = ap (λ (l : Run). l ++ rest) parts ∙ append_assoc s.past ((0, e) ∷ s.rest) rest in

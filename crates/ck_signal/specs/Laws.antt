@@ -1,4 +1,5 @@
--- A client with signals keeps the laws of a client, and what is within the client inside is within it.
+-- A client with signals keeps the laws of a client, and what is within the client inside is within it. These are proofs, and stand here
+-- because a ghost member of an `impl` cites only its own crate's specs.
 use Rattle.std.proofs.Common.{ℕ, ◌+◌, ◌<◌, ◌≤◌, ⊎_elim, inl, inr, Bool, ◌&&◌, cond, List, [], ◌∷◌, ◌++◌, ap, ◌∙◌, arith}
 use Rattle.std.proofs.lemmas.Bool.{lt-ltb}
 use Rattle.ck_run.specs.declared.account.Entry.{Entry}

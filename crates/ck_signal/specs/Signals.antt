@@ -10,7 +10,7 @@ use Rattle.ck_epoch.specs.State.{Origin, base_of}
 use Rattle.ck_epoch.specs.Client.{Client, IsClientOpening}
 use Rattle.ck_epoch.specs.Within.{inner_origin}
 use Rattle.ck_signal.specs.declared.signals.Signals.{Signals}
-use Rattle.ck_signal.specs.Words.{applied_word, answered_word, size_with, marks, reaches, notes, asks}
+use Rattle.ck_signal.specs.Words.{applied_word, answered_word, size_with, marks, reaches, notes, asks, reads}
 
 module _ {C : Type 0} where
   -- how a domain began, as the client inside sees it
@@ -20,6 +20,10 @@ module _ {C : Type 0} where
   -- how many records have a word `answered`
   abbrev pub readers : Origin (Signals C) → ℕ
   readers origin = origin.config.client.records
+
+  -- a pass may read by itself
+  abbrev pub IsRead : Origin (Signals C) → Account → Entry → Type 0
+  IsRead origin a e = (at : ℕ) × (found : ℕ) × (0 < a.number) × (e ≡ reads (base_of origin) at found)
 
 -- an account with one entry more
 abbrev pub grow : Account → Entry → Account
@@ -64,9 +68,9 @@ module _ {C : Type 0} (client : Client C) where
   abbrev pub IsSignal : ℕ → Origin (Signals C) → Entry → Type 0
   IsSignal first origin e = IsInside (first + own_size origin) (first + size_with (own_size origin) (readers origin)) e
 
-  -- such a step is one of the calls
+  -- such a step is one of the calls, or reads
   abbrev pub MaySignal : ℕ → Origin (Signals C) → Account → Entry → Type 0
-  MaySignal first origin a e = IsSignal first origin e → IsMark first origin a e ⊎ (IsReached first origin a e ⊎ (IsNote first origin a e ⊎ IsAnswered first origin a e))
+  MaySignal first origin a e = IsSignal first origin e → IsMark first origin a e ⊎ (IsReached first origin a e ⊎ (IsNote first origin a e ⊎ (IsAnswered first origin a e ⊎ IsRead origin a e)))
 
   -- The client with its signals. It has the log and the answers of the client inside
   abbrev pub signals : Client (Signals C)

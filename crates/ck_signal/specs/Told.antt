@@ -1,6 +1,7 @@
 -- What the signal words tell: of every true run of a domain whose client has signals, and of each moment of it. A moment is the part of
 -- the run that is past.
 use Rattle.std.specs.Prelude.{◌≡◌, ℕ, suc, ◌<◌, ◌≤◌, List, ◌∷◌, ◌++◌, length, slice_index}
+use Rattle.ck_run.specs.declared.account.Entry.{Entry}
 use Rattle.ck_run.specs.Run.{Run, replay, account}
 use Rattle.ck_run.specs.Rule.{IsRun}
 use Rattle.ck_run.specs.Tokens.{origin, number, did}
@@ -68,14 +69,14 @@ module _ {C : Type 0} (client : Client C) where
   abbrev pub answers : Token (Signals C) → ℕ
   answers t = answers_of client (base_of (origin t)) (origin t) (did t)
 
-  -- In every true run, at each moment by which the token has made these steps and no more, P holds of the run so far and of the run
+  -- In every true run, at each moment by which the token has made these steps, and maybe more, P holds of the run so far and of the run
   abbrev pub SinceStep : Token (Signals C) → (Run → Run → Type 0) → Type 0
-  SinceStep t P = (past rest : Run) → IsRunOf (origin t) (past ++ rest) → account (number t) past ≡ did t → P past (past ++ rest)
+  SinceStep t P = (past rest : Run) (more : List Entry) → IsRunOf (origin t) (past ++ rest) → account (number t) past ≡ did t ++ more → P past (past ++ rest)
 
-  -- then the log has at least n updates
+  -- from then on the log has at least n updates
   abbrev pub HasSeen : Token (Signals C) → ℕ → Type 0
   HasSeen t n = SinceStep t (λ past run. n ≤ length (log_in (origin t) past))
 
-  -- and then the first k answers of the reader r have places not above m
+  -- by then the reader r has given its first k answers, and they have places not above m
   abbrev pub HasBeenTold : Token (Signals C) → ℕ → ℕ → ℕ → Type 0
   HasBeenTold t r k m = SinceStep t (λ past run. AreBelow (origin t) past run r k m)

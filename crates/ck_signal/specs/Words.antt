@@ -3,7 +3,7 @@ use Rattle.std.specs.Prelude.{ℕ, ◌+◌, ◌*◌, [], ◌∷◌}
 use Rattle.ck_run.specs.declared.account.Step.TheVariants.{Load, Store}
 use Rattle.ck_run.specs.declared.account.Entry.{Entry}
 use Rattle.ck_run.specs.Run.{entry}
-use Rattle.ck_epoch.specs.State.{stride}
+use Rattle.ck_epoch.specs.State.{stride, read}
 
 -- After the words of a client that has `size` of them come `applied`, and then a word `answered` for each record. Each is at least a
 -- stride away from every other word in use, so that it has cache lines of its own. The words between are unused
@@ -17,7 +17,7 @@ answered_word size r = size + stride * (r + 2)
 abbrev pub size_with : ℕ → ℕ → ℕ
 size_with size records = size + stride * (records + 2)
 
--- the names of the calls
+-- The names of the calls. A client's own calls have other names than these and those of ck_epoch, which are 1 to 10
 abbrev pub mark : ℕ
 mark = 11
 
@@ -42,6 +42,10 @@ reaches applied wanted found = entry (reached ∷ wanted ∷ []) (Load applied f
 abbrev pub notes : ℕ → ℕ → Entry
 notes word answers = entry (note ∷ []) (Store word answers)
 
--- the writer loads the word of the reader r
+-- the writer loads that of the reader r
 abbrev pub asks : ℕ → ℕ → ℕ → Entry
 asks word r found = entry (answered ∷ r ∷ []) (Load word found)
+
+-- a pass loads any word of the client's by itself, where these begin at `base`
+abbrev pub reads : ℕ → ℕ → ℕ → Entry
+reads base at found = entry (read ∷ at ∷ []) (Load (base + at) found)

@@ -64,18 +64,17 @@ fn update<F>(domain: &Domain<Signals<Counter>>, writer: &mut Writer<Signals<Coun
 }
 
 // Gives an answer, and notes it.
-fn look(domain: &Domain<Signals<Counter>>, pass: &mut Pass<Signals<Counter>>) -> u64
+fn look(domain: &Domain<Signals<Counter>>, pass: &mut Pass<Signals<Counter>>)
     requires table { table pass.old.token ≡ domain.now }
     requires records { records_of domain.now.origin ≡ readers domain.now.origin }
     requires calls { pass.old.calls < 2 ^ 32 }
     requires tally { (pass.old.tally ≡ answers ⟦<Counter as Client>⟧.meaning pass.old.token) × (pass.old.tally < 2 ^ 32) }
     ensures { table pass.new.token ≡ table pass.old.token }
 {
-    let found = domain.read::<Brand>(pass, 0);
+    let _found = domain.read::<Brand>(pass, 0);
     let answers = pass.tally() + 1;
     pass.set_tally(answers);
     note(domain, pass);
-    found
 }
 
 fn home(item: Item) -> Back {
@@ -112,12 +111,11 @@ fn tells_across_threads(rt: HostRuntime) -> Result<(), Fail> {
         |item: Item| home(item),
     )?;
     let mut pass = passes.pop().unwrap();
-    let (_, found) = join_mut(
+    join_mut(
         &rt,
         &mut || update(&domain, &mut writer),
         &mut || look(&domain, &mut pass),
     );
-    assert_eq!(rt; found < 2, true);
     assert_eq!(rt; reached(&domain, &mut pass, 1), Ok(()));
     assert_eq!(rt; reached(&domain, &mut pass, 2), Err(1));
     assert_eq!(rt; answered(&domain, &mut writer, 0), 1);
