@@ -9,7 +9,7 @@ use native.Mathlib.Decide.{ℕ_discrete}
 use Rattle.ck_words.specs.declared.back.Back.{Back}
 use Rattle.ck_epoch.specs.declared.item.Item.{Item}
 use Rattle.ck_epoch.specs.declared.item.Retired.{Retired}
-use Rattle.ck_epoch.specs.State.{Retirement, queue, off_list}
+use Rattle.ck_epoch.specs.State.{Retirement, queue, on_list, off_list, list_by_list}
 use Rattle.ck_epoch.specs.Lists.{is_on, on, off, by_list, homes, Backlog, answered, AreRetired}
 
 off_same : (list : ℕ) (r : Retired) (xs : List Retired) → r.epoch % 4 ≡ list → off list (r ∷ xs) ≡ off list xs
@@ -105,3 +105,19 @@ module _ (home : Item → Back) where
       ∙ (two b ((on 0 xs ++ on 1 o0) ++ on 2 o1) (on 3 o2) o2 (off 3 o2)
       ∙ (ap (λ (kept : List Retired). answered home (((on 0 xs ++ on 1 o0) ++ on 2 o1) ++ on 3 o2) kept b) (none_left xs)
       ∙ ap (λ (gone : List Retired). answered home gone [] b) (in_order xs))))
+
+pub queue_on : (list : ℕ) (ks : List Retirement) → queue (on_list list ks) ≡ on list (queue ks)
+queue_on list [] = refl
+queue_on list (k ∷ ks) = map_cond (is_on list k.retired) k (on_list list ks) ∙ ap (λ (rs : List Retired). cond (is_on list k.retired) (k.retired ∷ rs) rs) (queue_on list ks)
+
+queue_both : (xs ys : List Retirement) (rs ss : List Retired) → queue xs ≡ rs → queue ys ≡ ss → queue (xs ++ ys) ≡ rs ++ ss
+queue_both xs ys rs ss e f = map-append (λ (k : Retirement). k.retired) xs ys ∙ λ i. e i ++ f i
+
+pub queue_by_list : (ks : List Retirement) → queue (list_by_list ks) ≡ by_list (queue ks)
+queue_by_list ks = queue_both (on_list 0 ks) (on_list 1 ks ++ (on_list 2 ks ++ on_list 3 ks)) (on 0 (queue ks)) (on 1 (queue ks) ++ (on 2 (queue ks) ++ on 3 (queue ks))) (queue_on 0 ks)
+    (queue_both (on_list 1 ks) (on_list 2 ks ++ on_list 3 ks) (on 1 (queue ks)) (on 2 (queue ks) ++ on 3 (queue ks)) (queue_on 1 ks)
+    (queue_both (on_list 2 ks) (on_list 3 ks) (on 2 (queue ks)) (on 3 (queue ks)) (queue_on 2 ks) (queue_on 3 ks)))
+
+-- what was dispatched before, and then these
+pub queue_behind : (before items : List Retirement) (rs : List Retired) → queue items ≡ rs → queue (before ++ items) ≡ queue before ++ rs
+queue_behind before items rs e = queue_both before items (queue before) rs refl e

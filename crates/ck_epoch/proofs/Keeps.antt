@@ -346,10 +346,10 @@ module _ (records : ℕ) (past : Run) (words : List ℕ) (at : ℕ → TokenStat
           (λ r l g. record_.raises_second past e (get_or words (active_word r) 0) (get_or words (epoch_word r) 0) r E V (at (suc r)).stage v records busy l (V.steps + 1) all started (low 1 s is refl) (at_made s is) g)
 
     -- the load of the global epoch at which a call of the writer's begins
-    opened : (o i : List ℕ) (found : ℕ) → V.stage ≡ free → e ≡ handing o i (Load 0 found) → found ≡ E → V.calls < 2 ^ 40 → Retires o i ⊎ Calls poll o i ⊎ Calls synchronize o i ⊎ Calls barrier o i
+    opened : (o i : List ℕ) (found : ℕ) → V.stage ≡ free → e ≡ handing o i (Load 0 found) → found ≡ E → V.calls < 2 ^ 40 → Retires i ⊎ Calls poll o i ⊎ Calls synchronize o i ⊎ Calls barrier o i
         → AreHeld records then words (moved at 0 (record (after_load V o i found) { steps = V.steps + 1 }))
     opened o i found is whole same few may = ⊎_elim
-        (λ (m : Retires o i). subst (λ (l : List ℕ). AreHeld records then words (moved at 0 (record (after_load V o l found) { steps = V.steps + 1 }))) (sym m.2)
+        (λ (m : Retires i). subst (λ (l : List ℕ). AreHeld records then words (moved at 0 (record (after_load V o l found) { steps = V.steps + 1 }))) (sym m.2)
         (retires is o m.0 m.1 found (whole ∙ ap (λ (l : List ℕ). handing o l (Load 0 found)) m.2) same few))
         (λ others. ⊎_elim
         (λ (m : Calls poll o i). by_name poll m (polls is found same few))

@@ -13,7 +13,9 @@ mod ClientSteps
 mod Retiring
 mod Polling
 mod Polled
+mod Counting
 mod Waits
 mod TwoRounds
 mod FirstWords
 mod Parting
+pub mod Itself

@@ -11,11 +11,11 @@ use Rattle.ck_run.specs.Tokens.{Table, table, adding, number, origin, MayMake}
 use Rattle.ck_run.proofs.Moments.{origin_stays, number_stays, adds_one}
 use Rattle.ck_epoch.specs.declared.answers.Scan.TheVariants.{Clear, Current, Behind}
 use Rattle.ck_epoch.specs.declared.about.About.{About}
-use Rattle.ck_epoch.specs.State.{Origin, Token, TokenState, Stage, Task, polling, free, scanning, comparing, base, base_of, records_of, active_word, epoch_word, Retirement, off_list, dispatch, dispatch_all, first_busy, is_clear, poll, after_load, state, epochs}
+use Rattle.ck_epoch.specs.State.{Origin, Token, TokenState, Stage, Task, polling, free, scanning, comparing, base, base_of, records_of, active_word, epoch_word, Retirement, on_list, off_list, list_by_list, dispatch, dispatch_all, first_busy, is_clear, poll, after_load, state, epochs}
 use Rattle.ck_epoch.specs.Client.{Client, Passes, program}
 use Rattle.ck_epoch.specs.Ends.{IsInRun, IsWriting}
 use Rattle.ck_epoch.specs.Calls.{Looked, look_steps, scan_steps, AreInactive, AreCurrent, FirstActive, FindsNone, Moves, IsBlocked}
-use Rattle.ck_epoch.specs.Scan.{IsFound, is_done, stage_at, pending_at, IsScanning, IsDone, Did}
+use Rattle.ck_epoch.specs.Scan.{IsFound, is_done, stage_at, pending_at, dispatched_at, gone_first, IsScanning, IsDone, Did}
 use Rattle.ck_epoch.proofs.Stepping.{Steps, may_at, state_at_step, writer_holds, writer_loads, writer_finds, opened}
 use Rattle.ck_epoch.proofs.Retiring.{lt_first}
 
@@ -86,6 +86,10 @@ module _ (s : TokenState) (g : Stage) where
   either_pending true = refl
   either_pending false = refl
 
+  either_dispatched : (b : Bool) → (either b).dispatched ≡ cond b (s.dispatched ++ list_by_list s.pending) s.dispatched
+  either_dispatched true = refl
+  either_dispatched false = refl
+
   either_calls : (b : Bool) → (either b).calls ≡ s.calls
   either_calls true = refl
   either_calls false = refl
@@ -134,6 +138,8 @@ module _ {C : Type 0} (client : Client C) (passes : Passes client) where
         calls = ap (λ (s : TokenState). s.calls) state_is;
         epoch = (sym found_epoch, ap (λ (s : TokenState). s.epoch) state_is ∙ sym found_epoch);
         pending = ap (λ (s : TokenState). s.pending) state_is ∙ sym (ap (λ (b : Bool). cond b [] (off_list ((n - 2) % 4) (state t).pending)) not_done);
+        dispatched = ap (λ (s : TokenState). s.dispatched) state_is
+            ∙ sym (ap (λ (b : Bool). cond b (gone_first n (state t) ++ list_by_list (off_list ((n - 2) % 4) (state t).pending)) (gone_first n (state t))) not_done);
       }
 
   -- one record
@@ -158,6 +164,9 @@ module _ {C : Type 0} (client : Client C) (passes : Passes client) where
 
     still : (state u).pending ≡ items
     still = at.pending ∙ ap (λ (b : Bool). cond b [] items) going
+
+    left : (state u).dispatched ≡ gone_first e (state t)
+    left = at.dispatched ∙ ap (λ (b : Bool). cond b (gone_first e (state t) ++ list_by_list items) (gone_first e (state t))) going
 
     abbrev sees : ℕ → Entry
     sees n = further (Load (active_word rec) n)
@@ -208,6 +217,7 @@ module _ {C : Type 0} (client : Client C) (passes : Passes client) where
             calls = ap (λ (x : TokenState). x.calls) s ∙ (either_calls (state u) g b ∙ at.calls);
             epoch = (at.epoch.0, ap (λ (x : TokenState). x.epoch) s ∙ (either_epoch (state u) g b ∙ at.epoch.1));
             pending = ap (λ (x : TokenState). x.pending) s ∙ (either_pending (state u) g b ∙ ap (λ (ps : List Retirement). cond b [] ps) still);
+            dispatched = ap (λ (x : TokenState). x.dispatched) s ∙ (either_dispatched (state u) g b ∙ λ i. cond b (left i ++ list_by_list (still i)) (left i));
           }
 
       -- it is active
@@ -266,6 +276,7 @@ module _ {C : Type 0} (client : Client C) (passes : Passes client) where
                 calls = ap (λ (y : TokenState). y.calls) s ∙ (either_calls (state v) g b ∙ (ap (λ (y : TokenState). y.calls) c ∙ at.calls));
                 epoch = (at.epoch.0, ap (λ (y : TokenState). y.epoch) s ∙ (either_epoch (state v) g b ∙ (ap (λ (y : TokenState). y.epoch) c ∙ at.epoch.1)));
                 pending = ap (λ (y : TokenState). y.pending) s ∙ (either_pending (state v) g b ∙ ap (λ (ps : List Retirement). cond b [] ps) (ap (λ (y : TokenState). y.pending) c ∙ still));
+                dispatched = ap (λ (y : TokenState). y.dispatched) s ∙ (either_dispatched (state v) g b ∙ (ap (λ (y : TokenState). cond b (y.dispatched ++ list_by_list y.pending) y.dispatched) c ∙ λ i. cond b (left i ++ list_by_list (still i)) (left i)));
               }
 
           pub behind : m ≢ e → Did client t z e (Behind rec m)
@@ -288,6 +299,7 @@ module _ {C : Type 0} (client : Client C) (passes : Passes client) where
                   calls = ap (λ (y : TokenState). y.calls) s ∙ (ap (λ (y : TokenState). y.calls) c ∙ at.calls);
                   epoch_is = ap (λ (y : TokenState). y.epoch) s ∙ (ap (λ (y : TokenState). y.epoch) c ∙ at.epoch.1);
                   pending_is = ap (λ (y : TokenState). y.pending) s ∙ (ap (λ (y : TokenState). y.pending) c ∙ still);
+                  dispatched_is = ap (λ (y : TokenState). y.dispatched) s ∙ (ap (λ (y : TokenState). y.dispatched) c ∙ left);
                 },
               )
 
@@ -303,6 +315,7 @@ module _ {C : Type 0} (client : Client C) (passes : Passes client) where
           calls = at.calls;
           epoch_is = at.epoch.1;
           pending_is = at.pending ∙ ap (λ (b : Bool). cond b [] (off_list ((e - 2) % 4) (state t).pending)) done;
+          dispatched_is = at.dispatched ∙ ap (λ (b : Bool). cond b (gone_first e (state t) ++ list_by_list (off_list ((e - 2) % 4) (state t).pending)) (gone_first e (state t))) done;
         },
       )
 
@@ -320,6 +333,12 @@ module _ {C : Type 0} (client : Client C) (passes : Passes client) where
 
     at_end : (state u).stage ≡ scanning polling e N (Some rec)
     at_end = at.stage ∙ ap (λ (b : Bool). cond b free (scanning polling e N (Some rec))) waits
+
+    still_there : (state u).pending ≡ off_list ((e - 2) % 4) (state t).pending
+    still_there = at.pending ∙ ap (λ (b : Bool). cond b [] (off_list ((e - 2) % 4) (state t).pending)) waits
+
+    left_there : (state u).dispatched ≡ gone_first e (state t)
+    left_there = at.dispatched ∙ ap (λ (b : Bool). cond b (gone_first e (state t) ++ list_by_list (off_list ((e - 2) % 4) (state t).pending)) (gone_first e (state t))) waits
 
     pub may_raise : (n : ℕ) → MayMake (program client) u (further (Exchange 0 e (e + 1) n))
     may_raise n = may_at client passes u [] (Exchange 0 e (e + 1) n) (scanning polling e N (Some rec)) at.part (omega arith) at_end (refl, sym (ap records_of (ap origin at.steps)), refl, refl, (refl, refl))
@@ -341,7 +360,8 @@ module _ {C : Type 0} (client : Client C) (passes : Passes client) where
             stage = ap (λ (y : TokenState). y.stage) s;
             calls = ap (λ (y : TokenState). y.calls) s ∙ at.calls;
             epoch_is = ap (λ (y : TokenState). y.epoch) s;
-            pending_is = ap (λ (y : TokenState). y.pending) s ∙ ap (off_list ((e - 1) % 4)) (at.pending ∙ ap (λ (b : Bool). cond b [] (off_list ((e - 2) % 4) (state t).pending)) waits);
+            pending_is = ap (λ (y : TokenState). y.pending) s ∙ ap (off_list ((e - 1) % 4)) still_there;
+            dispatched_is = ap (λ (y : TokenState). y.dispatched) s ∙ λ i. left_there i ++ on_list ((e - 1) % 4) (still_there i);
           },
         )
 

@@ -47,7 +47,7 @@ module _ (past : Run) (n : ℕ) (e : Entry) (global r : ℕ) (w : TokenState) (m
   now = past ++ (n, e) ∷ []
 
   back : (o i : ℕ) → i < count past 0 → o < place now 0 i → o < place past 0 i
-  back o i l h = let s = place_stays past (n, e) 0 i l in omega arith
+  back o i l h = let s = place_stays past ((n, e) ∷ []) 0 i l in omega arith
 
   -- where no section opens
   kept_open : (active own : ℕ) (g : Stage) → IsRecord past global active own r w g → (o : ℕ) → IsOpen past r o → IsOpenAt global (λ i. o < place now 0 i) r w g

@@ -138,7 +138,7 @@ module _ (past : Run) (e : Entry) (active own r : ℕ) where
   now = past ++ (0, e) ∷ []
 
   back : (o i : ℕ) → i < count past 0 → o < place now 0 i → o < place past 0 i
-  back o i l h = let s = place_stays past (0, e) 0 i l in omega arith
+  back o i l h = let s = place_stays past ((0, e) ∷ []) 0 i l in omega arith
 
   goes : (global global' : ℕ) (w w' : TokenState) (g : Stage) → AreMade (count past 0) w → global ≤ global' → (IsTimely global own g → IsTimely global' own g) → (IsPassed w'.stage r → IsCurrent global' g)
       → ((older : ℕ → Type 0) (d x : ℕ) → g ≡ inside d x → IsGuarded global older r x w → IsGuarded global' older r x w')

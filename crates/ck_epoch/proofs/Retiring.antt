@@ -30,14 +30,13 @@ pub closed : {C F : Type 0} (u v : Token C) (b d : Backlog) (calls : ℕ) (handl
     (record { token = v; calls = calls; waiting = d.waiting; room = d.room; handler = handler; tally = tally })
 closed u v b d calls handler tally e f = λ i. record { token = e i; calls = calls; waiting = (f i).waiting; room = (f i).room; handler = handler; tally = tally }
 
-module _ {C : Type 0} (client : Client C) (t : Token C) (b : Backlog) (inv : IsWriter client t b) (few : (state t).calls < 2 ^ 40) (i : Item) (opens : List ℕ)
-    (name : (opens ≡ []) ⊎ (opens ≡ retire ∷ i.at ∷ i.log ∷ [])) where
+module _ {C : Type 0} (client : Client C) (t : Token C) (b : Backlog) (inv : IsWriter client t b) (few : (state t).calls < 2 ^ 40) (i : Item) (opens : List ℕ) where
   abbrev hands : ℕ → Entry
   hands n = handing opens (i.at ∷ i.log ∷ []) (Load 0 n)
 
   pub may_retire : (n : ℕ) → (IsWriting client t → MayFollow client t (hands n)) → MayMake (program client) t (hands n)
   may_retire n follows = may_step client t (hands n) inv.part
-      (subst (λ (g : Stage). MayStep (records_of (origin t)) (state t) opens (i.at ∷ i.log ∷ []) g (Load 0 n)) (sym inv.stage) (inl (refl, few, inl (i.at, i.log, refl, name))))
+      (subst (λ (g : Stage). MayStep (records_of (origin t)) (state t) opens (i.at ∷ i.log ∷ []) g (Load 0 n)) (sym inv.stage) (inl (refl, few, inl (i.at, i.log, refl))))
       (λ other. absurd (let z = inv.first in omega arith))
       (follows (record { part = inv.part; first = inv.first }))
 
@@ -56,6 +55,9 @@ module _ {C : Type 0} (client : Client C) (t : Token C) (b : Backlog) (inv : IsW
 
     pub queued : queue (state u).pending ≡ queue (state t).pending ++ record { item = i; epoch = n } ∷ []
     queued = ap (λ (s : TokenState). queue s.pending) retired_state ∙ map-append (λ (k : Retirement). k.retired) (state t).pending (retirement (state t).steps i.at i.log n ∷ [])
+
+    pub retired_dispatched : (state u).dispatched ≡ (state t).dispatched
+    retired_dispatched = ap (λ (s : TokenState). s.dispatched) retired_state
 
     pub retired_epoch : (state u).epoch ≡ (state t).epoch
     retired_epoch = ap (λ (s : TokenState). s.epoch) retired_state

@@ -13,7 +13,7 @@ use Rattle.ck_run.specs.Tokens.{Table, table, did, origin, number, adding, MayMa
 use Rattle.ck_run.proofs.Moments.{run_weaker, run_before, part_weaker, table_stays, number_stays, adds_one, adding-append}
 use Rattle.ck_epoch.specs.declared.about.About.{About}
 use Rattle.ck_epoch.specs.State.{base, synchronize, barrier, poll, Task, polling, first_round, second_round, Stage, free, scanning, comparing, between, TokenState, dispatch_all, Retires, Calls, after_load, after_raise, after_step, next, MayStep, May, Origin, Token, records_of, base_of, epochs, queue, state, state_at}
-use Rattle.ck_epoch.specs.Epochs.{IsOpen, IsOlder}
+use Rattle.ck_epoch.specs.Epochs.{place, IsOpen, IsOlder}
 use Rattle.ck_epoch.specs.Held.{due, IsScan, IsWriter}
 use Rattle.ck_epoch.specs.Client.{Client, Passes, program}
 use Rattle.ck_epoch.specs.Lists.{Backlog, AreRetired}
@@ -21,7 +21,8 @@ use Rattle.ck_epoch.specs.Ends.{IsInRun, IsWriter as IsBetween}
 use Rattle.ck_epoch.specs.Calls.{Looked}
 use Rattle.ck_epoch.specs.Rounds.{wait_steps, IsWait, waits_steps, IsRound, IsWaiting, name_of, after_rounds, Rounds, HaveEnded, IsScanning, ScansOn, IsFree}
 use Rattle.ck_epoch.proofs.Stepping.{Steps, may_step, may_epochs, state_after_step}
-use Rattle.ck_epoch.proofs.EpochLaw.{has_waited}
+use Rattle.ck_epoch.proofs.EpochLaw.{held_after, has_waited}
+use Rattle.ck_epoch.proofs.Places.{count, place_stays, place_below, was_open, cut}
 use Rattle.ck_epoch.proofs.Moments.{writer_knows, loads_global, finds_global}
 use Rattle.ck_epoch.proofs.Waits.{HasPassed, next_at, may_at, with_steps, scans_both, scans_none, adds_none}
 
@@ -134,7 +135,7 @@ begins_as : (all : Bool) (opens : List ℕ) → opens ≡ name_of all ∷ [] →
 begins_as false opens name s e = ap (λ (o : List ℕ). after_load s o [] e) name
 begins_as true opens name s e = ap (λ (o : List ℕ). after_load s o [] e) name
 
-begins_by : (all : Bool) (opens : List ℕ) → opens ≡ name_of all ∷ [] → Retires opens [] ⊎ Calls poll opens [] ⊎ Calls synchronize opens [] ⊎ Calls barrier opens []
+begins_by : (all : Bool) (opens : List ℕ) → opens ≡ name_of all ∷ [] → Retires [] ⊎ Calls poll opens [] ⊎ Calls synchronize opens [] ⊎ Calls barrier opens []
 begins_by false opens name = inr (inr (inl (name, refl)))
 begins_by true opens name = inr (inr (inr (name, refl)))
 
@@ -235,12 +236,20 @@ module _ {C : Type 0} (client : Client C) (passes : Passes client) (t : Token C)
 
 -- after both rounds no section is open that was open at the call
 pub have_ended : {C : Type 0} (client : Client C) (passes : Passes client) (t u : Token C) (n : ℕ) (all : Bool) → IsFree client t → origin u ≡ origin t → number u ≡ 0 → state u ≡ after_rounds all (state t) n → HaveEnded client t u
-have_ended client passes t u n all f same first is past rest run made r o low open_ older =
+have_ended client passes t u n all f same first is past rest more run made r o low open_ older =
     let org = origin t in
-    let epochs_run : IsRun (follows_of epochs) org past = run_before epochs org past rest (run_weaker (program client) (follows_of epochs) org (past ++ rest) (λ k es h. h.0) run) in
-    let there : state_at org 0 (account 0 past) ≡ state u = ap (state_at org 0) made ∙ (ap (λ (k : ℕ). state_at org k (did u)) (sym first) ∙ ap (λ (q : Origin _). state_at q (number u) (did u)) (sym same)) in
+    let k = cut 0 past (did u) more made in
+    let whole : past ++ rest ≡ k.before ++ (k.since ++ rest) = ap (λ (p : Run). p ++ rest) k.whole ∙ append_assoc k.before k.since rest in
+    let all_run : IsRun (follows_of epochs) org (past ++ rest) = run_weaker (program client) (follows_of epochs) org (past ++ rest) (λ j es h. h.0) run in
+    let then : IsRun (follows_of epochs) org k.before = run_before epochs org k.before (k.since ++ rest) (subst (IsRun (follows_of epochs) org) whole all_run) in
+    let there : state_at org 0 (account 0 k.before) ≡ state u = ap (state_at org 0) k.made ∙ (ap (λ (j : ℕ). state_at org j (did u)) (sym first) ∙ ap (λ (q : Origin _). state_at q (number u) (did u)) (sym same)) in
+    let waited = ap (λ (s : TokenState). s.waited) (there ∙ is) in
     let w = (writer_knows t (state t) (in_epochs client passes t f.part) f.first).1 in
-    has_waited org past epochs_run r o (state t).steps low open_ (ap (λ (s : TokenState). s.waited) (there ∙ is)) (subst (λ (k : ℕ). IsOlder past o k) (sym w.steps) older)
+    let begun : (state t).steps < count k.before 0 = (held_after org k.before then).writer.waited (state t).steps waited in
+    let stays = ap (λ (p : Run). place p 0 (state t).steps) k.whole ∙ place_stays k.before k.since 0 (state t).steps begun in
+    let early : o < place k.before 0 (state t).steps = let z = ap (place past 0) w.steps in omega arith in
+    let below = place_below k.before 0 (state t).steps begun in
+    has_waited org k.before then r o (state t).steps low (was_open k.before k.since r o (omega arith) (subst (λ (p : Run). IsOpen p r o) k.whole open_)) waited early
 
 -- the writer between two calls, before and after two rounds
 module _ {C : Type 0} (client : Client C) (t : Token C) (b : Backlog) (w : IsBetween client t b) where

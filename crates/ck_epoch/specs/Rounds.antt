@@ -3,6 +3,7 @@
 use Rattle.std.specs.Prelude.{◌≡◌, ℕ, ◌+◌, ◌^◌, ◌<◌, ◌⊎◌, Bool, true, false, cond, Option, Some, List, [], ◌∷◌, ◌++◌, length, All}
 use Rattle.ck_run.specs.declared.account.Step.{Step}
 use Rattle.ck_run.specs.declared.account.Step.TheVariants.{Load, Exchange}
+use Rattle.ck_run.specs.declared.account.Entry.{Entry}
 use Rattle.ck_run.specs.Run.{Run, call, account}
 use Rattle.ck_run.specs.Rule.{IsRun}
 use Rattle.ck_run.specs.Tokens.{did, origin, number, adding}
@@ -54,9 +55,9 @@ module _ {C : Type 0} where
   abbrev pub Rounds : ℕ → ℕ → ℕ → Token C → Token C → Type 0
   Rounds records name e t u = (first : List Step) × (second : List Step) × IsRound records e first × IsRound records (e + 1) second × (u ≡ adding t (call name [] (first ++ second)))
 
-  -- In every true run in which the writer made the steps from t to u, and no others since: no section is open that was open at the first
+  -- In every true run in which the writer made the steps from t to u, and maybe more since: no section is open that was open at the first
   abbrev pub HaveEnded : Client C → Token C → Token C → Type 0
-  HaveEnded client t u = (past rest : Run) → IsRun (program client) (origin t) (past ++ rest) → account 0 past ≡ did u
+  HaveEnded client t u = (past rest : Run) (more : List Entry) → IsRun (program client) (origin t) (past ++ rest) → account 0 past ≡ did u ++ more
       → (r o : ℕ) → r < records_of (origin t) → IsOpen past r o → ¬ IsOlder past o (length (did t))
 
   -- within a round, before the record `rec` is passed

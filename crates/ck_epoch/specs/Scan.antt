@@ -5,7 +5,7 @@ use Rattle.ck_run.specs.Run.{call}
 use Rattle.ck_run.specs.Tokens.{adding, number, origin}
 use Rattle.ck_epoch.specs.declared.answers.Scan.{Scan}
 use Rattle.ck_epoch.specs.declared.answers.Scan.TheVariants.{Clear, Current, Behind}
-use Rattle.ck_epoch.specs.State.{Token, TokenState, Stage, Task, polling, scanning, free, Retirement, off_list, is_clear, poll, records_of, state}
+use Rattle.ck_epoch.specs.State.{Token, TokenState, Stage, Task, polling, scanning, free, Retirement, on_list, off_list, list_by_list, is_clear, poll, records_of, state}
 use Rattle.ck_epoch.specs.Client.{Client}
 use Rattle.ck_epoch.specs.Ends.{IsInRun}
 use Rattle.ck_epoch.specs.Calls.{Looked, scan_steps, AreInactive, FirstActive, FindsNone, Moves, IsBlocked}
@@ -26,6 +26,14 @@ stage_at records e rec busy = cond (is_done records rec busy) free (scanning pol
 abbrev pub pending_at : ℕ → ℕ → Option ℕ → List Retirement → List Retirement
 pending_at records rec busy items = cond (is_done records rec busy) [] items
 
+-- and what was dispatched, after these
+abbrev pub dispatched_at : ℕ → ℕ → Option ℕ → List Retirement → List Retirement → List Retirement
+dispatched_at records rec busy gone items = cond (is_done records rec busy) (gone ++ list_by_list items) gone
+
+-- the items that a poll dispatches first, behind those that were dispatched before
+abbrev pub gone_first : ℕ → TokenState → List Retirement
+gone_first e s = s.dispatched ++ on_list ((e - 2) % 4) s.pending
+
 module _ {C : Type 0} (client : Client C) where
   -- The writer that began a poll as t and is u now: it loaded the global epoch e and has passed the records below `rec`
   pub record IsScanning (t u : Token C) (e rec : ℕ) (busy : Option ℕ) : Type 0 where
@@ -39,18 +47,21 @@ module _ {C : Type 0} (client : Client C) where
     pub calls : (state u).calls ≡ (state t).calls + 1
     pub epoch : ((state t).epoch ≡ e) × ((state u).epoch ≡ e)
     pub pending : (state u).pending ≡ pending_at (records_of (origin t)) rec busy (off_list ((e - 2) % 4) (state t).pending)
+    pub dispatched : (state u).dispatched ≡ dispatched_at (records_of (origin t)) rec busy (gone_first e (state t)) (off_list ((e - 2) % 4) (state t).pending)
 
-  -- the writer between two calls, after a poll that left it this epoch and these pending items
-  pub record IsDone (t u : Token C) (epoch : ℕ) (pending : List Retirement) : Type 0 where
+  -- the writer between two calls, after a poll that left it this epoch, these pending items and these that were dispatched
+  pub record IsDone (t u : Token C) (epoch : ℕ) (pending dispatched : List Retirement) : Type 0 where
     pub part : IsInRun client u
     pub first : number u ≡ 0
     pub stage : (state u).stage ≡ free
     pub calls : (state u).calls ≡ (state t).calls + 1
     pub epoch_is : (state u).epoch ≡ epoch
     pub pending_is : (state u).pending ≡ pending
+    pub dispatched_is : (state u).dispatched ≡ dispatched
 
   -- what a poll did, by what it found
   abbrev pub Did : Token C → Token C → ℕ → Scan → Type 0
-  Did t u e Clear = FindsNone (records_of (origin t)) e t u × IsDone t u e []
+  Did t u e Clear = FindsNone (records_of (origin t)) e t u × IsDone t u e [] (gone_first e (state t) ++ list_by_list (off_list ((e - 2) % 4) (state t).pending))
   Did t u e (Current rec) = Moves (records_of (origin t)) e rec t u × IsDone t u (e + 1) (off_list ((e - 1) % 4) (off_list ((e - 2) % 4) (state t).pending))
-  Did t u e (Behind rec epoch) = IsBlocked e rec epoch t u × IsDone t u e (off_list ((e - 2) % 4) (state t).pending)
+      (gone_first e (state t) ++ on_list ((e - 1) % 4) (off_list ((e - 2) % 4) (state t).pending))
+  Did t u e (Behind rec epoch) = IsBlocked e rec epoch t u × IsDone t u e (off_list ((e - 2) % 4) (state t).pending) (gone_first e (state t))

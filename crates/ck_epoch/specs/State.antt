@@ -177,9 +177,9 @@ after_raise t polling e = record (dispatch (e - 1) t) { stage = free; epoch = e 
 after_raise t (first_round all started) e = record t { stage = between all started; epoch = e + 1 }
 after_raise t (second_round all started) e = record (cond all (dispatch_all t) t) { stage = free; epoch = e + 1; waited = Some started }
 
--- a step that retires an item: `call` by itself, or within a call of the client's
-abbrev pub Retires : List ℕ → List ℕ → Type 0
-Retires opens item = (at : ℕ) × (log : ℕ) × (item ≡ at ∷ log ∷ []) × ((opens ≡ []) ⊎ (opens ≡ retire ∷ at ∷ log ∷ []))
+-- a step that retires an item, in `call` by itself or within a call of the client's
+abbrev pub Retires : List ℕ → Type 0
+Retires item = (at : ℕ) × (log : ℕ) × (item ≡ at ∷ log ∷ [])
 
 module _ (records : ℕ) where
   -- after the record `rec` was passed. Where a poll has found none of all records active, it dispatches all lists
@@ -218,7 +218,7 @@ module _ (records : ℕ) where
   MayStep t opens item (holding g) (Store at n) = (at ≡ epoch_word t.rec) × (t.rec < records) × (n ≡ g) × GoesOn opens item
   MayStep t opens item (inside d g) (Store at n) = (SetsActive t at × (((n ≡ d + 1) × (d < 2 ^ 32) × Calls begin opens item) ⊎ ((n ≡ d - 1) × Calls end opens item))) ⊎ IsClients at item
   MayStep t opens item (inside d g) (Load at n) = IsClients at item
-  MayStep t opens item free (Load at e) = ((at ≡ 0) × (t.calls < 2 ^ 40) × (Retires opens item ⊎ Calls poll opens item ⊎ Calls synchronize opens item ⊎ Calls barrier opens item)) ⊎ IsClients at item
+  MayStep t opens item free (Load at e) = ((at ≡ 0) × (t.calls < 2 ^ 40) × (Retires item ⊎ Calls poll opens item ⊎ Calls synchronize opens item ⊎ Calls barrier opens item)) ⊎ IsClients at item
   MayStep t opens item free (Store at n) = IsClients at item
   MayStep t opens item (scanning task e rec busy) (Load at n) = (at ≡ active_word rec) × (rec < records) × GoesOn opens item
   MayStep t opens item (scanning task e rec busy) (Exchange at expected new found) = (at ≡ 0) × (rec ≡ records) × (expected ≡ e) × (new ≡ e + 1) × GoesOn opens item

@@ -1,6 +1,5 @@
 -- A client that holds another one.
 use Rattle.std.specs.Prelude.{◌≡◌, ℕ, ◌+◌, ◌<◌, ◌≤◌, true, List, ◌++◌, ◌∷◌, []}
-use Rattle.std.proofs.Common.{sym, ap, subst, arith}
 use Rattle.ck_run.specs.declared.account.Entry.{Entry}
 use Rattle.ck_epoch.specs.declared.item.Item.{Item}
 use Rattle.ck_epoch.specs.State.{Origin, base_of}
@@ -29,21 +28,3 @@ pub record IsWithin {C D : Type 0} (small : Client C) (large : Client D) (place 
   pub lifts : (first : ℕ) (origin : Origin D) (n : ℕ) (es : List Entry) (e : Entry) → base_of origin ≤ first → large.follows first origin n es
       → IsOwn small (first + place origin.config.client) (inner_origin part origin) e
       → small.follows (first + place origin.config.client) (inner_origin part origin) n (es ++ e ∷ []) → large.follows first origin n (es ++ e ∷ [])
-
-plus_none : (n : ℕ) → n + 0 ≡ n
-plus_none n = omega arith
-
-none_plus : (n : ℕ) → 0 + n ≡ n
-none_plus n = omega arith
-
--- each client is within itself, with its words from place 0 on
-pub itself : {C : Type 0} (client : Client C) → IsWithin client client (λ c. 0) (λ c. c)
-itself {C} client = record {
-  fits = λ d. omega arith;
-  first = λ d at low. ap (client.first d) (none_plus at);
-  guarded = λ d at low. ap (client.guarded d) (none_plus at);
-  retires = λ d i h. subst (λ (k : ℕ). client.retires d (record i { at = k }) ≡ true) (sym (none_plus i.at)) h;
-  home = λ d i h. ap (λ (k : ℕ). client.home d (record i { at = k })) (none_plus i.at);
-  shows = λ first origin n es h. subst (λ (k : ℕ). client.follows k origin n es) (sym (plus_none first)) h;
-  lifts = λ first origin n es e low h own may. subst (λ (k : ℕ). client.follows k origin n (es ++ e ∷ [])) (plus_none first) may;
-}

@@ -1,6 +1,6 @@
 //! The items that are pending, and the answers of the handler that wait for the writer. Only `new` takes memory.
 ghost use Rattle.std.specs.Prelude.{◌≡◌, ◌+◌, ◌<◌, ◌≤◌, ◌^◌, [], ◌∷◌, ◌++◌, length, IfOk};
-ghost use Rattle.std.specs.Option.{option_to_list};
+ghost use Rattle.std.specs.Option.{MatchOption};
 ghost use Rattle.std.specs.VecDeque.{deque_len, deque_capacity};
 ghost use Rattle.ck_epoch.specs.Lists.{on, off, by_list, homes, answered, Answers, AreRetired};
 
@@ -97,7 +97,7 @@ impl Backlog {
 
     /// Takes the answer that waits longest.
     pub(crate) fn next_back(&mut self) -> Option<Back>
-        ensures oldest { self.old.waiting ≡ option_to_list result ++ self.new.waiting }
+        ensures oldest { MatchOption result ((self.old.waiting ≡ []) × (self.new.waiting ≡ [])) (λ b. self.old.waiting ≡ b ∷ self.new.waiting) }
         ensures rest { (self.new.pending ≡ self.old.pending) × (self.new.room ≡ self.old.room) }
     {
         self.waiting.pop_front()

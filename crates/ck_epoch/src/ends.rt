@@ -77,7 +77,7 @@ impl<C: Client, F> Writer<C, F> {
         self.calls
     }
 
-    /// A number that the client keeps here. It is 0 at opening.
+    /// A number that the client keeps here. It is 0 at opening. Contracts also see that the token is a writer's in a true run.
     pub fn tally(&self) -> u64
         ensures tally { result ≡ self.now.tally }
         ensures writing { IsWriting C.meaning self.now.token }
@@ -96,7 +96,7 @@ impl<C: Client, F> Writer<C, F> {
 }
 
 impl<C: Client> Pass<C> {
-    /// The number of its record, from 0.
+    /// The number of its record, from 0. Contracts also see that the token is a pass's in a true run.
     pub fn rec(&self) -> u64
         ensures rec { result + 1 ≡ number self.now.token }
         ensures reading { IsReading C.meaning self.now.token }
@@ -118,7 +118,7 @@ impl<C: Client> Pass<C> {
         self.calls
     }
 
-    /// A number that the client keeps here. It is 0 at opening.
+    /// A number that the client keeps here. It is 0 at opening. Contracts also see that the token is a pass's in a true run.
     pub fn tally(&self) -> u64
         ensures tally { result ≡ self.now.tally }
         ensures reading { IsReading C.meaning self.now.token }

@@ -6,7 +6,7 @@ ghost use Rattle.ck_epoch.specs.State.{base, active_word as active, epoch_word a
 pub(crate) const GLOBAL: usize = 0;
 
 /// How many words the words that one reader stores are away from those of others: two cache lines.
-pub(crate) const STRIDE: u64 = 16;
+pub const STRIDE: u64 = 16;
 
 /// The epoch at which a domain begins.
 pub(crate) const FIRST_EPOCH: u64 = 4;

@@ -14,6 +14,8 @@ mod layout;
 mod opening;
 mod reading;
 #[cfg(test)]
+mod reading_tests;
+#[cfg(test)]
 mod tests;
 mod waiting;
 #[cfg(test)]
@@ -27,3 +29,4 @@ pub use domain::Domain;
 pub use ends::{Pass, Writer};
 pub use item::{Item, Retired};
 pub use law::holds_after_every_run;
+pub use layout::STRIDE;

@@ -86,7 +86,7 @@ impl<C: Client> Domain<C> {
         ensures table { (table writer.new.token ≡ table writer.old.token) × (number writer.new.token ≡ number writer.old.token) }
         ensures steps { Rounds (records_of self.now.origin) synchronizes (state writer.old.token).epoch writer.old.token writer.new.token }
         ensures ended { HaveEnded C.meaning writer.old.token writer.new.token }
-        ensures pending { (state writer.new.token).pending ≡ (state writer.old.token).pending }
+        ensures items { ((state writer.new.token).pending ≡ (state writer.old.token).pending) × ((state writer.new.token).dispatched ≡ (state writer.old.token).dispatched) }
         ensures epoch { (state writer.new.token).epoch ≡ (state writer.old.token).epoch + 2 }
         ensures part { IsInRun C.meaning writer.new.token }
     {
@@ -105,6 +105,7 @@ impl<C: Client> Domain<C> {
         ensures ended { HaveEnded C.meaning writer.old.token writer.new.token }
         ensures waiting { writer.new.waiting ≡ writer.old.waiting ++ homes (C.meaning.home self.now.origin.config.client) (by_list (queue (state writer.old.token).pending)) }
         ensures pending { (state writer.new.token).pending ≡ [] }
+        ensures dispatched { queue (state writer.new.token).dispatched ≡ queue (state writer.old.token).dispatched ++ by_list (queue (state writer.old.token).pending) }
         ensures count { result ≡ length (state writer.old.token).pending }
         ensures epoch { (state writer.new.token).epoch ≡ (state writer.old.token).epoch + 2 }
         ensures part { IsInRun C.meaning writer.new.token }

@@ -1,11 +1,10 @@
-ghost use Rattle.std.specs.Prelude.{◌≡◌, ◌+◌, ◌<◌, ◌^◌, ◌==◌, length};
+ghost use Rattle.std.specs.Prelude.{◌≡◌, ◌+◌, ◌<◌, ◌^◌, length};
 ghost use Rattle.ck_run.specs.Tokens.{table};
 ghost use Rattle.ck_epoch.specs.State.{state, depth};
-ghost use Rattle.ck_epoch.specs.Lists.{Answers};
 
 use crate::tests::{BLOCK, Counter, home};
-use crate::{Domain, Item, Pass, Poll, Writer};
-use ck_words::Back;
+use crate::{Domain, Item, Pass, Poll};
+use crossbeam_utils::Backoff;
 use std::marker::Brand;
 use std::sync::Wait;
 use std::sync::atomic::AtomicU64;
@@ -60,28 +59,14 @@ fn hold_open(
     domain.end(pass);
 }
 
-// Retires an item once the section is open, and takes it back. Was the section over by then?
-fn give_back<R: Wait, F: Fn(Item) -> Back>(
-    rt: &R,
-    domain: &Domain<Counter>,
-    writer: &mut Writer<Counter, F>,
-    inside: &AtomicU64,
-    over: &AtomicU64,
-) -> (u64, Option<Back>, u64)
-    requires table { table writer.old.token ≡ domain.now }
-    requires calls { writer.old.calls < 2 ^ 16 }
-    requires room { length (state writer.old.token).pending + length writer.old.waiting < writer.old.room }
-    requires handler { Answers (λ i. i.log == 3) (λ i. record { shelf = 1; at = i.at; log = i.log }) (F.pre writer.old.handler) (F.post writer.old.handler) }
-{
+fn until_one<R: Wait>(rt: &R, flag: &AtomicU64) {
+    let backoff = Backoff::new();
     for _ in rt.forever() {
-        if inside.load(SeqCst) == 1 {
-            break;
+        if flag.load(SeqCst) == 1 {
+            return;
         }
+        backoff.snooze();
     }
-    domain.call::<Brand, _>(writer, BLOCK);
-    let count = domain.barrier(rt, writer);
-    let ended = over.load(SeqCst);
-    (count, domain.next_back(writer), ended)
 }
 
 #[test]
@@ -99,7 +84,15 @@ fn barrier_waits_for_the_open_section(rt: HostRuntime) -> Result<(), Fail> {
     let (_, given) = join_mut(
         &rt,
         &mut || hold_open(&domain, &mut pass, &inside, &over),
-        &mut || give_back(&rt, &domain, &mut writer, &inside, &over),
+        &mut ||
+            requires writer { (table writer.token ≡ domain) × (writer.calls < 2 ^ 16) }
+            requires room { length (state writer.token).pending + length writer.waiting < writer.room }
+        {
+            until_one(&rt, &inside);
+            domain.call::<Brand, _>(&mut writer, BLOCK);
+            let count = domain.barrier(&rt, &mut writer);
+            (count, domain.next_back(&mut writer), over.load(SeqCst))
+        },
     );
     assert_eq!(rt; given, (1, Some(home(BLOCK)), 1));
     Ok(())

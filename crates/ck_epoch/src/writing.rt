@@ -1,6 +1,6 @@
 //! What the writer does.
 ghost use Rattle.std.specs.Prelude.{◌≡◌, ℕ, ◌+◌, ◌<◌, ◌≤◌, ◌⊎◌, ◌^◌, true, [], ◌∷◌, ◌++◌, length, None, MatchResult};
-ghost use Rattle.std.specs.Option.{option_to_list};
+ghost use Rattle.std.specs.Option.{MatchOption};
 ghost use Rattle.ck_run.specs.declared.account.Step.TheVariants.{Load, Store};
 ghost use Rattle.ck_run.specs.Run.{entry, handing};
 ghost use Rattle.ck_run.specs.Tokens.{table, number, adding, MayMake, Makes};
@@ -30,7 +30,7 @@ impl<C: Client> Domain<C> {
         requires word { at < C.meaning.size self.now.origin.config.client }
         requires client { IsWriting C.meaning writer.old.token → (n : ℕ) → n < 2 ^ 64 → MayFollow C.meaning writer.old.token (entry O.opens (Load (base_of self.now.origin + at) n)) }
         ensures step { writer.new ≡ record writer.old { token = adding writer.old.token (entry O.opens (Load (base_of self.now.origin + at) result) ∷ []) } }
-        ensures same { ((state writer.new.token).pending ≡ (state writer.old.token).pending) × ((state writer.new.token).epoch ≡ (state writer.old.token).epoch) }
+        ensures same { ((state writer.new.token).pending ≡ (state writer.old.token).pending) × ((state writer.new.token).dispatched ≡ (state writer.old.token).dispatched) × ((state writer.new.token).epoch ≡ (state writer.old.token).epoch) }
         ensures part { IsInRun C.meaning writer.new.token }
     {
         let word = base_word(self.about.records) + at as usize;
@@ -43,7 +43,7 @@ impl<C: Client> Domain<C> {
         requires word { at < C.meaning.size self.now.origin.config.client }
         requires client { IsWriting C.meaning writer.old.token → MayFollow C.meaning writer.old.token (entry O.opens (Store (base_of self.now.origin + at) value)) }
         ensures step { writer.new ≡ record writer.old { token = adding writer.old.token (entry O.opens (Store (base_of self.now.origin + at) value) ∷ []) } }
-        ensures same { ((state writer.new.token).pending ≡ (state writer.old.token).pending) × ((state writer.new.token).epoch ≡ (state writer.old.token).epoch) }
+        ensures same { ((state writer.new.token).pending ≡ (state writer.old.token).pending) × ((state writer.new.token).dispatched ≡ (state writer.old.token).dispatched) × ((state writer.new.token).epoch ≡ (state writer.old.token).epoch) }
         ensures part { IsInRun C.meaning writer.new.token }
     {
         let word = base_word(self.about.records) + at as usize;
@@ -67,14 +67,13 @@ impl<C: Client> Domain<C> {
         requires calls { writer.old.calls < 2 ^ 40 }
         requires retires { C.meaning.retires self.now.origin.config.client item ≡ true }
         requires room { length (state writer.old.token).pending + length writer.old.waiting < writer.old.room }
-        requires name { (O.opens ≡ []) ⊎ (O.opens ≡ retire ∷ item.at ∷ item.log ∷ []) }
         requires client { IsWriting C.meaning writer.old.token → (n : ℕ) → n < 2 ^ 64 → MayFollow C.meaning writer.old.token (handing O.opens (item.at ∷ item.log ∷ []) (Load 0 n)) }
         ensures step { writer.new ≡ record writer.old {
           token = adding writer.old.token (handing O.opens (item.at ∷ item.log ∷ []) (Load 0 (state writer.old.token).epoch) ∷ []);
           calls = writer.old.calls + 1;
         } }
         ensures pending { queue (state writer.new.token).pending ≡ queue (state writer.old.token).pending ++ record { item = item; epoch = (state writer.old.token).epoch } ∷ [] }
-        ensures epoch { (state writer.new.token).epoch ≡ (state writer.old.token).epoch }
+        ensures same { ((state writer.new.token).dispatched ≡ (state writer.old.token).dispatched) × ((state writer.new.token).epoch ≡ (state writer.old.token).epoch) }
         ensures part { IsInRun C.meaning writer.new.token }
     {
         let epoch = self.retire::<O, Brand>(&mut writer.token, item);
@@ -85,7 +84,7 @@ impl<C: Client> Domain<C> {
     /// Takes the answer that waits longest. None comes exactly where none waits.
     pub fn next_back<F>(&self, writer: &mut Writer<C, F>) -> Option<Back>
         requires table { table writer.old.token ≡ self.now }
-        ensures oldest { writer.old.waiting ≡ option_to_list result ++ writer.new.waiting }
+        ensures oldest { MatchOption result ((writer.old.waiting ≡ []) × (writer.new.waiting ≡ [])) (λ b. writer.old.waiting ≡ b ∷ writer.new.waiting) }
         ensures same { writer.new ≡ record writer.old { waiting = writer.new.waiting } }
     {
         writer.backlog.next_back()
@@ -164,6 +163,7 @@ impl<C: Client> Domain<C> {
         ensures same { (table writer.new.token ≡ table writer.old.token) × (number writer.new.token ≡ number writer.old.token) × (writer.new.room ≡ writer.old.room) × (writer.new.handler ≡ writer.old.handler) × (writer.new.tally ≡ writer.old.tally) }
         ensures steps { Polls (records_of self.now.origin) (state writer.old.token).epoch writer.old.token result writer.new.token }
         ensures waiting { writer.new.waiting ≡ writer.old.waiting ++ homes (C.meaning.home self.now.origin.config.client) (gone (state writer.old.token).epoch result (queue (state writer.old.token).pending)) }
+        ensures dispatched { queue (state writer.new.token).dispatched ≡ queue (state writer.old.token).dispatched ++ gone (state writer.old.token).epoch result (queue (state writer.old.token).pending) }
         ensures pending { queue (state writer.new.token).pending ≡ kept (state writer.old.token).epoch result (queue (state writer.old.token).pending) }
         ensures count { count_of result ≡ length (gone (state writer.old.token).epoch result (queue (state writer.old.token).pending)) }
         ensures epoch { (state writer.new.token).epoch ≡ epoch_after (state writer.old.token).epoch result }

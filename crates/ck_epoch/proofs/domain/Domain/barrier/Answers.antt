@@ -1,9 +1,10 @@
-use Rattle.std.proofs.Common.{◌≡◌, ◌+◌, ◌<◌, ◌^◌, true, refl, sym, ap, ◌∙◌, subst, arith}
+use Rattle.std.proofs.Common.{◌≡◌, ◌+◌, ◌++◌, ◌<◌, ◌^◌, true, refl, sym, ap, ◌∙◌, subst, arith}
 use Rattle.std.proofs.lemmas.List.Elements.{All-nil}
 use Rattle.ck_run.specs.Tokens.{table, origin, number}
-use Rattle.ck_epoch.specs.State.{Token, TokenState, records_of, barrier, state}
+use Rattle.ck_epoch.specs.State.{Token, TokenState, records_of, barrier, state, queue, list_by_list}
 use Rattle.ck_epoch.specs.declared.item.Retired.{Retired}
-use Rattle.ck_epoch.specs.Lists.{Backlog, AreRetired}
+use Rattle.ck_epoch.proofs.FourLists.{queue_by_list, queue_behind}
+use Rattle.ck_epoch.specs.Lists.{by_list, Backlog, AreRetired}
 use Rattle.ck_epoch.specs.Rounds.{Rounds, HaveEnded}
 use Rattle.ck_epoch.proofs.TwoRounds.{is_free, counts_more, writer_after, have_ended}
 use Rattle.ck_epoch.proofs.domain.Domain.barrier.Goals as goal
@@ -53,6 +54,12 @@ returns-clause-ended g c =
 
 pub returns-clause-pending : goal.returns-clause-pending
 returns-clause-pending g c = ap (λ (s : TokenState). s.pending) (c.two_rounds.ensures.state true refl)
+
+pub returns-clause-dispatched : goal.returns-clause-dispatched
+returns-clause-dispatched g c = let s = state c.writer.inside.token in
+    ap (λ (s : TokenState). queue s.dispatched) (c.two_rounds.ensures.state true refl)
+    ∙ (queue_behind s.dispatched (list_by_list s.pending) (by_list (queue s.pending)) (queue_by_list s.pending)
+    ∙ ap (λ w. queue (state w.token).dispatched ++ by_list (queue (state w.token).pending)) c.writer.view_is)
 
 pub returns-clause-epoch : goal.returns-clause-epoch
 returns-clause-epoch g c = ap (λ (s : TokenState). s.epoch) (c.two_rounds.ensures.state true refl) ∙ ap (λ w. (state w.token).epoch + 2) c.writer.view_is

@@ -14,7 +14,7 @@ retire-epoch-requires-clause-may g c n fits =
     let i = c.args.item in
     let few : (state c.writer.inside.token).calls < 2 ^ 40 = let a = c.writer.invariant.1 in let b = c.requires.calls in let e = ap (λ (v : Writer g.row.C.Denot g.row.F.Denot). v.calls) c.writer.view_is in omega arith in
     let token_is = ap (λ (v : Writer g.row.C.Denot g.row.F.Denot). v.token) c.writer.view_is in
-    may_retire meaning c.writer.inside.token c.writer.inside.backlog c.writer.invariant.0 few i g.O.Opens.opens c.requires.name n
+    may_retire meaning c.writer.inside.token c.writer.inside.backlog c.writer.invariant.0 few i g.O.Opens.opens n
     (subst (λ (t : Token g.row.C.Denot). IsWriting meaning t → MayFollow meaning t (handing g.O.Opens.opens (i.at ∷ i.log ∷ []) (Load 0 n))) (sym token_is) (λ writing. c.requires.client writing n fits))
 
 pub returns-clause-step : goal.returns-clause-step
@@ -23,7 +23,7 @@ returns-clause-step g c =
     let i = c.args.item in
     let t = c.writer.inside.token in
     let few : (state t).calls < 2 ^ 40 = let a = c.writer.invariant.1 in let b = c.requires.calls in let e = ap (λ (v : Writer g.row.C.Denot g.row.F.Denot). v.calls) c.writer.view_is in omega arith in
-    let found = finds_epoch meaning t c.writer.inside.backlog c.writer.invariant.0 few i g.O.Opens.opens c.requires.name c.retire-epoch.new.token c.retire-epoch.result c.retire-epoch.ensures.step in
+    let found = finds_epoch meaning t c.writer.inside.backlog c.writer.invariant.0 few i g.O.Opens.opens c.retire-epoch.new.token c.retire-epoch.result c.retire-epoch.ensures.step in
     let token_is : c.retire-epoch.new.token ≡ loaded g.O.Opens.opens i t = c.retire-epoch.ensures.step.0 ∙ ap (λ (n : ℕ). adding t (handing g.O.Opens.opens (i.at ∷ i.log ∷ []) (Load 0 n) ∷ [])) found in
     closed {F = g.row.F.Denot} c.retire-epoch.new.token (loaded g.O.Opens.opens i t) c.retire.new.self _ (c.writer.inside.calls + 1) c.writer.inside.handler c.writer.inside.tally token_is c.retire.ensures
     ∙ ap (λ (v : Writer g.row.C.Denot g.row.F.Denot). record v { token = loaded g.O.Opens.opens i v.token; calls = v.calls + 1 }) c.writer.view_is
@@ -34,7 +34,7 @@ returns-clause-pending g c =
     let i = c.args.item in
     let t = c.writer.inside.token in
     let few : (state t).calls < 2 ^ 40 = let a = c.writer.invariant.1 in let b = c.requires.calls in let e = ap (λ (v : Writer g.row.C.Denot g.row.F.Denot). v.calls) c.writer.view_is in omega arith in
-    let found = finds_epoch meaning t c.writer.inside.backlog c.writer.invariant.0 few i g.O.Opens.opens c.requires.name c.retire-epoch.new.token c.retire-epoch.result c.retire-epoch.ensures.step in
-    queued meaning t c.writer.inside.backlog c.writer.invariant.0 few i g.O.Opens.opens c.requires.name c.retire-epoch.new.token c.retire-epoch.result c.retire-epoch.ensures.step
+    let found = finds_epoch meaning t c.writer.inside.backlog c.writer.invariant.0 few i g.O.Opens.opens c.retire-epoch.new.token c.retire-epoch.result c.retire-epoch.ensures.step in
+    queued meaning t c.writer.inside.backlog c.writer.invariant.0 few i g.O.Opens.opens c.retire-epoch.new.token c.retire-epoch.result c.retire-epoch.ensures.step
     ∙ (ap (λ (n : ℕ). queue (state t).pending ++ record { item = i; epoch = n } ∷ []) found
     ∙ ap (λ (v : Writer g.row.C.Denot g.row.F.Denot). queue (state v.token).pending ++ record { item = i; epoch = (state v.token).epoch } ∷ []) c.writer.view_is)

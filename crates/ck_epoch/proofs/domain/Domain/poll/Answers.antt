@@ -3,8 +3,10 @@ use Rattle.ck_run.specs.Tokens.{table, origin}
 use Rattle.ck_epoch.specs.declared.item.Retired.{Retired}
 use Rattle.ck_epoch.specs.State.{Token, queue, off_list, state}
 use Rattle.ck_epoch.specs.Lists.{Backlog, on, off, by_list}
+use Rattle.ck_epoch.specs.declared.answers.Poll.TheVariants.{Clear, Moved, Blocked}
+use Rattle.ck_epoch.specs.Calls.{gone}
 use Rattle.ck_epoch.specs.Ends.{Writer}
-use Rattle.ck_epoch.proofs.Polled.{config_is, left_retired, left_queue, rest_retired, rest_queue, writer_after, calls_after, kept_one, kept_two, count_all}
+use Rattle.ck_epoch.proofs.Polled.{config_is, left_retired, left_queue, rest_retired, rest_queue, writer_after, calls_after, kept_one, kept_two, gone_one, gone_two, gone_all, count_all}
 use Rattle.ck_epoch.proofs.domain.Domain.poll.Goals as goal
 
 pub dispatch_all-rest-requires-clause-retired : goal.dispatch_all-rest-requires-clause-retired
@@ -29,10 +31,10 @@ invariant_of-writer-in-Current g c =
     let config = config_is t c.self.inside.words c.args.self.now about (ap table token_is ∙ c.requires.table) c.self.view_is c.self.invariant.told in
     let did = c.in-Current.ensures.outcome t c.start_poll-epoch.ensures.scanning in
     let left = c.dispatch_list-before.ensures.backlog in let rest = c.dispatch_list-rest.ensures.backlog in (
-      writer_after meaning t b inv about config c.scan.new.token _ _ c.dispatch_list-rest.new.self did.1 (ap (λ (x : Token g.row.C.Denot). (origin x).config) did.0.steps ∙ config)
+      writer_after meaning t b inv about config c.scan.new.token _ _ _ c.dispatch_list-rest.new.self did.1 (ap (λ (x : Token g.row.C.Denot). (origin x).config) did.0.steps ∙ config)
           (rest_queue meaning t b inv about config _ c.dispatch_list-before.new.self left _ c.dispatch_list-rest.new.self rest)
           (rest_retired meaning t b inv about config _ c.dispatch_list-before.new.self left _ c.dispatch_list-rest.new.self rest),
-      calls_after meaning t b inv about config c.scan.new.token _ c.writer.inside.calls _ did.1 c.writer.invariant.1,
+      calls_after meaning t b inv about config c.scan.new.token _ c.writer.inside.calls _ _ did.1 c.writer.invariant.1,
     )
 
 pub invariant_of-writer-in-Behind : goal.invariant_of-writer-in-Behind
@@ -43,10 +45,10 @@ invariant_of-writer-in-Behind g c =
     let config = config_is t c.self.inside.words c.args.self.now about (ap table token_is ∙ c.requires.table) c.self.view_is c.self.invariant.told in
     let did = c.in-Behind.ensures.outcome t c.start_poll-epoch.ensures.scanning in
     let left = c.dispatch_list-before.ensures.backlog in (
-      writer_after meaning t b inv about config c.scan.new.token _ _ c.dispatch_list-before.new.self did.1 (ap (λ (x : Token g.row.C.Denot). (origin x).config) did.0.steps ∙ config)
+      writer_after meaning t b inv about config c.scan.new.token _ _ _ c.dispatch_list-before.new.self did.1 (ap (λ (x : Token g.row.C.Denot). (origin x).config) did.0.steps ∙ config)
           (left_queue meaning t b inv about config _ c.dispatch_list-before.new.self left)
           (left_retired meaning t b inv about config _ c.dispatch_list-before.new.self left),
-      calls_after meaning t b inv about config c.scan.new.token _ c.writer.inside.calls _ did.1 c.writer.invariant.1,
+      calls_after meaning t b inv about config c.scan.new.token _ c.writer.inside.calls _ _ did.1 c.writer.invariant.1,
     )
 
 pub returns-in-Clear-clause-count : goal.returns-in-Clear-clause-count
@@ -77,3 +79,30 @@ returns-in-Behind-clause-pending g c =
     ap queue did.1.pending_is ∙ (kept_one c.start_poll-epoch.result (state t).pending
     ∙ (ap (λ (e : ℕ). off ((e - 2) % 4) (queue (state t).pending)) (sym scanning.epoch.0)
     ∙ ap (λ (v : Writer g.row.C.Denot g.row.F.Denot). off (((state v.token).epoch - 2) % 4) (queue (state v.token).pending)) c.writer.view_is))
+
+pub returns-in-Clear-clause-dispatched : goal.returns-in-Clear-clause-dispatched
+returns-in-Clear-clause-dispatched g c =
+    let t = c.writer.inside.token in
+    let scanning = c.start_poll-epoch.ensures.scanning in
+    let did = c.in-Clear.ensures.outcome t scanning in
+    ap queue did.1.dispatched_is ∙ (gone_all c.start_poll-epoch.result (state t)
+    ∙ (ap (λ (e : ℕ). queue (state t).dispatched ++ gone e (Clear 0) (queue (state t).pending)) (sym scanning.epoch.0)
+    ∙ ap (λ (v : Writer g.row.C.Denot g.row.F.Denot). queue (state v.token).dispatched ++ gone (state v.token).epoch (Clear 0) (queue (state v.token).pending)) c.writer.view_is))
+
+pub returns-in-Current-clause-dispatched : goal.returns-in-Current-clause-dispatched
+returns-in-Current-clause-dispatched g c =
+    let t = c.writer.inside.token in
+    let scanning = c.start_poll-epoch.ensures.scanning in
+    let did = c.in-Current.ensures.outcome t scanning in
+    ap queue did.1.dispatched_is ∙ (gone_two c.start_poll-epoch.result (state t)
+    ∙ (ap (λ (e : ℕ). queue (state t).dispatched ++ gone e (Moved 0 0) (queue (state t).pending)) (sym scanning.epoch.0)
+    ∙ ap (λ (v : Writer g.row.C.Denot g.row.F.Denot). queue (state v.token).dispatched ++ gone (state v.token).epoch (Moved 0 0) (queue (state v.token).pending)) c.writer.view_is))
+
+pub returns-in-Behind-clause-dispatched : goal.returns-in-Behind-clause-dispatched
+returns-in-Behind-clause-dispatched g c =
+    let t = c.writer.inside.token in
+    let scanning = c.start_poll-epoch.ensures.scanning in
+    let did = c.in-Behind.ensures.outcome t scanning in
+    ap queue did.1.dispatched_is ∙ (gone_one c.start_poll-epoch.result (state t)
+    ∙ (ap (λ (e : ℕ). queue (state t).dispatched ++ gone e (Blocked 0 0 0) (queue (state t).pending)) (sym scanning.epoch.0)
+    ∙ ap (λ (v : Writer g.row.C.Denot g.row.F.Denot). queue (state v.token).dispatched ++ gone (state v.token).epoch (Blocked 0 0 0) (queue (state v.token).pending)) c.writer.view_is))

@@ -45,8 +45,11 @@ returns-clause-ended g c =
     subst (λ (x : Token _). HaveEnded g.C.Client.meaning x u) (ap (λ w. w.token) c.writer.view_is)
     (have_ended g.C.Client.meaning g.met.C.Client.passes t u (state u).steps false free (ap origin steps) (ap number steps ∙ w.first) (e.state false refl))
 
-pub returns-clause-pending : goal.returns-clause-pending
-returns-clause-pending g c = ap (λ (s : TokenState). s.pending) (c.two_rounds.ensures.state false refl) ∙ ap (λ w. (state w.token).pending) c.writer.view_is
+pub returns-clause-items : goal.returns-clause-items
+returns-clause-items g c = let is = c.two_rounds.ensures.state false refl in (
+  ap (λ (s : TokenState). s.pending) is ∙ ap (λ w. (state w.token).pending) c.writer.view_is,
+  ap (λ (s : TokenState). s.dispatched) is ∙ ap (λ w. (state w.token).dispatched) c.writer.view_is,
+)
 
 pub returns-clause-epoch : goal.returns-clause-epoch
 returns-clause-epoch g c = ap (λ (s : TokenState). s.epoch) (c.two_rounds.ensures.state false refl) ∙ ap (λ w. (state w.token).epoch + 2) c.writer.view_is
