@@ -18,7 +18,7 @@ pub fn mark<C: Client, F>(domain: &Domain<Signals<C>>, writer: &mut Writer<Signa
     requires table { table writer.old.token ≡ domain.now }
     requires tally { writer.old.tally ≡ length (log C.meaning writer.old.token) }
     ensures step { writer.new ≡ record writer.old { token = adding writer.old.token (marks (applied C.meaning domain.now.origin) (length (log C.meaning writer.old.token)) ∷ []) } }
-    ensures same { ((state writer.new.token).pending ≡ (state writer.old.token).pending) × ((state writer.new.token).epoch ≡ (state writer.old.token).epoch) }
+    ensures same { ((state writer.new.token).pending ≡ (state writer.old.token).pending) × ((state writer.new.token).dispatched ≡ (state writer.old.token).dispatched) × ((state writer.new.token).epoch ≡ (state writer.old.token).epoch) }
     ensures part { IsInRun (signals C.meaning) writer.new.token }
 {
     let updates = writer.tally();
@@ -84,7 +84,7 @@ fn load_answered<C: Client, F, O: Opens>(
     requires reader { reader < readers domain.now.origin }
     requires name { O.opens ≡ asking ∷ reader ∷ [] }
     ensures step { writer.new ≡ record writer.old { token = adding writer.old.token (asks (answered_at C.meaning domain.now.origin reader) reader result ∷ []) } }
-    ensures same { ((state writer.new.token).pending ≡ (state writer.old.token).pending) × ((state writer.new.token).epoch ≡ (state writer.old.token).epoch) }
+    ensures same { ((state writer.new.token).pending ≡ (state writer.old.token).pending) × ((state writer.new.token).dispatched ≡ (state writer.old.token).dispatched) × ((state writer.new.token).epoch ≡ (state writer.old.token).epoch) }
     ensures part { IsInRun (signals C.meaning) writer.new.token }
 {
     domain.ask::<O, F>(writer, answered_word(domain.client(), reader))
@@ -101,7 +101,7 @@ pub fn answered<C: Client, F>(
     requires reader { reader < readers domain.now.origin }
     ensures step { writer.new ≡ record writer.old { token = adding writer.old.token (asks (answered_at C.meaning domain.now.origin reader) reader result ∷ []) } }
     ensures places { HasBeenTold C.meaning writer.new.token reader result (length (log C.meaning writer.old.token)) }
-    ensures same { ((state writer.new.token).pending ≡ (state writer.old.token).pending) × ((state writer.new.token).epoch ≡ (state writer.old.token).epoch) }
+    ensures same { ((state writer.new.token).pending ≡ (state writer.old.token).pending) × ((state writer.new.token).dispatched ≡ (state writer.old.token).dispatched) × ((state writer.new.token).epoch ≡ (state writer.old.token).epoch) }
     ensures part { IsInRun (signals C.meaning) writer.new.token }
 {
     load_answered::<C, F, Brand>(domain, writer, reader)

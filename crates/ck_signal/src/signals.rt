@@ -2,7 +2,7 @@
 ghost use Rattle.std.specs.Prelude.{◌≡◌, ◌<◌, ◌≤◌, ◌^◌};
 ghost use Rattle.ck_signal.specs.Words.{applied_word as applied, answered_word as answered, size_with};
 
-use ck_epoch::{Client, Within};
+use ck_epoch::{Client, STRIDE, Within};
 
 /// The client, and behind its words the word `applied`, in which the writer stores the length of its log, and a word `answered` for each
 /// record, in which its reader stores how many answers it has given.
@@ -67,9 +67,6 @@ impl<C: Client, D: Within<C>> Within<C> for Signals<D> {
 
     ghost within = { within_so C.meaning D.meaning D.place D.part D.within };
 }
-
-// How many words each signal word is away from the words in use before it: two cache lines.
-const STRIDE: u64 = 16;
 
 // The word `applied`, as a word of the client.
 pub(crate) fn applied_word<C: Client>(signals: &Signals<C>) -> u64
