@@ -18,4 +18,3 @@ mod Waits
 mod TwoRounds
 mod FirstWords
 mod Parting
-pub mod Itself

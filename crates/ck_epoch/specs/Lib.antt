@@ -9,3 +9,4 @@ pub mod Epochs
 pub mod Held
 pub mod Rounds
 pub mod Closing
+pub mod Itself

@@ -56,7 +56,7 @@ impl Client for Counter {
 }
 
 impl Within<Counter> for Counter {
-    ghost use Rattle.ck_epoch.proofs.Itself.{itself};
+    ghost use Rattle.ck_epoch.specs.Itself.{itself};
 
     ghost place = { λ c. 0 };
 

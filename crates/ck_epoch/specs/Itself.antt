@@ -1,4 +1,4 @@
--- Each client is within itself.
+-- Each client is within itself. The proof stands here because the impl of a trait for a client of this crate cites only specs.
 use Rattle.std.proofs.Common.{◌≡◌, ℕ, ◌+◌, true, [], ◌∷◌, ◌++◌, sym, ap, subst, arith}
 use Rattle.ck_epoch.specs.Client.{Client}
 use Rattle.ck_epoch.specs.Within.{IsWithin}
