@@ -118,21 +118,21 @@ cut n run [] fs e = record { before = []; since = run; whole = refl; made = refl
 cut n [] (y ∷ es) fs e = absurd cc
 cut n (x ∷ run) (y ∷ es) fs e = dite (ℕ_discrete x.0 n)
     (λ same. let e' = sym (ap (λ b. cond b (x.1 ∷ account n run) (account n run)) (eq-eqb x.0 n same)) ∙ e in
-      let c = cut n run es fs (ap (λ (l : List Entry). drop 1 l) e') in
-      record {
-        before = x ∷ c.before;
-        since = c.since;
-        whole = ap (λ (l : Run). x ∷ l) c.whole;
-        made = ap (λ b. cond b (x.1 ∷ account n c.before) (account n c.before)) (eq-eqb x.0 n same) ∙ λ i. heads e' i ∷ c.made i;
-      })
+    let c = cut n run es fs (ap (λ (l : List Entry). drop 1 l) e') in
+    record {
+      before = x ∷ c.before;
+      since = c.since;
+      whole = ap (λ (l : Run). x ∷ l) c.whole;
+      made = ap (λ b. cond b (x.1 ∷ account n c.before) (account n c.before)) (eq-eqb x.0 n same) ∙ λ i. heads e' i ∷ c.made i;
+    })
     (λ other. let e' = sym (ap (λ b. cond b (x.1 ∷ account n run) (account n run)) (ne_eqb x.0 n other)) ∙ e in
-      let c = cut n run (y ∷ es) fs e' in
-      record {
-        before = x ∷ c.before;
-        since = c.since;
-        whole = ap (λ (l : Run). x ∷ l) c.whole;
-        made = ap (λ b. cond b (x.1 ∷ account n c.before) (account n c.before)) (ne_eqb x.0 n other) ∙ c.made;
-      })
+    let c = cut n run (y ∷ es) fs e' in
+    record {
+      before = x ∷ c.before;
+      since = c.since;
+      whole = ap (λ (l : Run). x ∷ l) c.whole;
+      made = ap (λ b. cond b (x.1 ∷ account n c.before) (account n c.before)) (ne_eqb x.0 n other) ∙ c.made;
+    })
   where
     heads : x.1 ∷ account n run ≡ y ∷ (es ++ fs) → x.1 ≡ y
     heads z = ap (λ (l : List Entry). first_or y l) z

@@ -1,8 +1,7 @@
-ghost use Rattle.std.specs.Prelude.{◌≡◌, ℕ, ◌+◌, ◌*◌, ◌<◌, ◌≤◌, ◌^◌, ◌==◌, true};
+ghost use Rattle.std.specs.Prelude.{◌≡◌, ℕ, ◌+◌, ◌*◌, ◌<◌, ◌≤◌, ◌^◌, ◌==◌};
 ghost use Rattle.ck_run.specs.Tokens.{table};
-ghost use Rattle.ck_words.specs.declared.back.Back.{Back as BackOf};
-ghost use Rattle.ck_epoch.specs.declared.item.Item.{Item as ItemOf};
 ghost use Rattle.ck_epoch.specs.State.{depth};
+ghost use Rattle.ck_epoch.specs.Lists.{Answers};
 
 use crate::tests::{Counter, home};
 use crate::{Domain, Item, Pass, Writer};
@@ -66,7 +65,7 @@ fn count_up<F: Fn(Item) -> Back>(
     requires table { table writer.old.token ≡ domain.now }
     requires calls { writer.old.calls + 2 * times < 2 ^ 32 }
     requires room { 8 ≤ writer.old.room }
-    requires handler { (i : ItemOf) → (i.log == 3) ≡ true → F.pre writer.old.handler i × ((b : BackOf) → F.post writer.old.handler i b → b ≡ record { shelf = 1; at = i.at; log = i.log }) }
+    requires handler { Answers (λ i. i.log == 3) (λ i. record { shelf = 1; at = i.at; log = i.log }) (F.pre writer.old.handler) (F.post writer.old.handler) }
     ensures same { (table writer.new.token ≡ table writer.old.token) × (writer.new.handler ≡ writer.old.handler) }
     ensures calls { writer.new.calls ≤ writer.old.calls + 2 * times }
 {
@@ -103,7 +102,9 @@ fn two_readers_beside_the_writer(rt: HostRuntime) -> Result<(), Fail> {
     let mut first = passes.pop().unwrap();
     let (_given, rises) = join_mut(
         &rt,
-        &mut || count_up(&domain, &mut writer, 300),
+        &mut ||
+            requires { (table writer.token ≡ domain) × (writer.calls ≡ 0) × (8 ≤ writer.room) }
+        { count_up(&domain, &mut writer, 300) },
         &mut || read_both(&rt, &domain, &mut first, &mut second),
     );
     assert_eq!(rt; rises, (true, true));

@@ -3,3 +3,4 @@ pub mod Map
 pub mod Page
 pub mod Legal
 pub mod Place
+pub mod Room

@@ -42,10 +42,7 @@ impl<K: Ord + Copy> Book<K> {
     pub fn find(&self, key: &K) -> Option<u64>
         ensures { result ≡ find K.cmp self.now.pairs key.now }
     {
-        match pairs::place_of(&self.pairs, key) {
-            Ok(at) => Some(self.pairs[at].1),
-            Err(_) => None,
-        }
+        pairs::find(&self.pairs, key)
     }
 
     /// The pairs, by ascending key.

@@ -3,10 +3,14 @@
 #![tactic(auto)]
 
 mod book;
+mod fixed;
 mod key;
+mod log;
 mod pairs;
 mod update;
 
 pub use book::Book;
+pub use fixed::FixedBook;
 pub use key::Key;
+pub use log::{LogEntry, Look, Placed};
 pub use update::{Reply, Update};

@@ -1,8 +1,9 @@
 //! Look-ups in, and edits of, pairs that are sorted by key.
 
-ghost use Rattle.std.specs.Prelude.{◌≡◌, IfOk, MatchResult, OnOk, OnErr};
-ghost use Rattle.ck_history.specs.Map.{IsMap, add, step};
+ghost use Rattle.std.specs.Prelude.{◌≡◌, ℕ, IfOk, IsOk, MatchResult, OnOk, OnErr};
+ghost use Rattle.ck_history.specs.Map.{IsMap, find, add, step};
 ghost use Rattle.ck_history.specs.Place.{StandsAt, BelongsAt};
+ghost use Rattle.ck_history.specs.Room.{HasRoom};
 ghost use Rattle.ck_history.specs.declared.update.Update.TheVariants.{Set, Put, Del};
 ghost use Rattle.ck_history.specs.declared.update.Reply.TheVariants.{Fresh};
 
@@ -15,6 +16,17 @@ pub fn place_of<K: Ord + Copy>(pairs: &[(K, u64)], key: &K) -> Result<usize, usi
     ensures { MatchResult result (StandsAt K.cmp key.now pairs.now) (BelongsAt K.cmp key.now pairs.now) }
 {
     pairs.binary_search_by_key(key, |pair| pair.0)
+}
+
+/// The value beside the key.
+pub fn find<K: Ord + Copy>(pairs: &[(K, u64)], key: &K) -> Option<u64>
+    requires { IsMap K.cmp pairs.now }
+    ensures { result ≡ find K.cmp pairs.now key.now }
+{
+    match place_of(pairs, key) {
+        Ok(at) => Some(pairs[at].1),
+        Err(_) => None,
+    }
 }
 
 /// Adds the pair of an absent key at its place, unless there are `most` pairs.
@@ -32,6 +44,7 @@ pub fn add<K: Ord + Copy>(
     ensures ok { OnOk result (pairs.new.items ≡ (add K.cmp most pairs.old.items key value).0) }
     ensures err { OnErr result (pairs.new.items ≡ pairs.old.items) }
     ensures memory { OnErr result ((add K.cmp most pairs.old.items key value).1 ≡ Fresh) }
+    ensures room { HasRoom most pairs.old → IsOk result × HasRoom most pairs.new }
 {
     if pairs.len() as u64 >= most {
         return Ok(Reply::Full);
@@ -53,6 +66,7 @@ pub fn set<K: Ord + Copy>(
     ensures ok { OnOk result (pairs.new.items ≡ (step K.cmp most pairs.old.items (Set key value)).0) }
     ensures err { OnErr result (pairs.new.items ≡ pairs.old.items) }
     ensures memory { OnErr result ((step K.cmp most pairs.old.items (Set key value)).1 ≡ Fresh) }
+    ensures room { HasRoom most pairs.old → IsOk result × HasRoom most pairs.new }
 {
     match place_of(pairs, &key) {
         Ok(at) => {
@@ -77,6 +91,7 @@ pub fn put<K: Ord + Copy>(
     ensures ok { OnOk result (pairs.new.items ≡ (step K.cmp most pairs.old.items (Put key value)).0) }
     ensures err { OnErr result (pairs.new.items ≡ pairs.old.items) }
     ensures memory { OnErr result ((step K.cmp most pairs.old.items (Put key value)).1 ≡ Fresh) }
+    ensures room { HasRoom most pairs.old → IsOk result × HasRoom most pairs.new }
 {
     match place_of(pairs, &key) {
         Ok(at) => Ok(Reply::Has(pairs[at].1)),
@@ -90,6 +105,7 @@ pub fn remove<K: Ord + Copy>(pairs: &mut Vec<(K, u64)>, key: &K) -> Reply
     ensures order { IsMap K.cmp pairs.new.items }
     ensures reply { result ≡ (step K.cmp 0 pairs.old.items (Del key.now)).1 }
     ensures pairs { pairs.new.items ≡ (step K.cmp 0 pairs.old.items (Del key.now)).0 }
+    ensures room { (most : ℕ) → HasRoom most pairs.old → HasRoom most pairs.new }
 {
     match place_of(pairs, key) {
         Ok(at) => Reply::Was(pairs.remove(at).1),

@@ -9,7 +9,24 @@ use std::sync::Wait;
 use std::test::Fail;
 use std::thread::Threads;
 
-// Runs words over files, and gives the outcome and what the sink took.
+// Runs words over files into a sink.
+fn ran_into<R: Threads + Wait + Sync>(
+    rt: &R,
+    alloc: Global,
+    words: &[&str],
+    files: Vec<(String, Vec<u8>)>,
+    shelf_fails: Vec<u64>,
+    sink: &mut MemSink,
+) -> Result<Outcome, AllocError> {
+    let mut list = Vec::new(alloc);
+    for word in words {
+        list.push(String::from_str(alloc, word)?)?;
+    }
+    let mut shelf = MemShelf::new(files, shelf_fails);
+    Ok(run(rt, alloc, &list, &mut shelf, sink, &OpenGate))
+}
+
+// The same into a sink with room for every report here. Gives the outcome and what the sink took.
 fn ran<R: Threads + Wait + Sync>(
     rt: &R,
     alloc: Global,
@@ -21,13 +38,8 @@ fn ran<R: Threads + Wait + Sync>(
 ) -> Result<(Outcome, Vec<u8>), AllocError>
     requires { 1 ≤ most }
 {
-    let mut list = Vec::new(alloc);
-    for word in words {
-        list.push(String::from_str(alloc, word)?)?;
-    }
-    let mut shelf = MemShelf::new(files, shelf_fails);
     let mut sink = MemSink::new(alloc, 4000000, most, sink_fails)?;
-    let outcome = run(rt, alloc, &list, &mut shelf, &mut sink, &OpenGate);
+    let outcome = ran_into(rt, alloc, words, files, shelf_fails, &mut sink)?;
     let taken = Vec::from_slice(alloc, sink.bytes())?;
     Ok((outcome, taken))
 }
@@ -238,6 +250,19 @@ fn keeps_what_was_put_before_a_fault(rt: HostRuntime) -> Result<(), Fail> {
             assert_eq!(rt; taken.as_slice(), TWO_REPORT);
         }
     }
+    Ok(())
+}
+
+#[test]
+fn keeps_the_five_bytes_that_a_small_sink_took(rt: HostRuntime) -> Result<(), Fail> {
+    let alloc = rt.alloc();
+    let files = shelved(alloc, &["set 7 10\n", "get 7\n"])?;
+    let fails = vec![in alloc; 2u64]?;
+    let mut sink = MemSink::new(alloc, 100, 5, fails)?;
+    let words = ["table", "u", "q"];
+    let outcome = ran_into(&rt, alloc, &words, files, Vec::new(alloc), &mut sink)?;
+    assert_eq!(rt; outcome, Outcome::WriteFault);
+    assert_eq!(rt; sink.bytes(), b"u 1 f".as_slice());
     Ok(())
 }
 

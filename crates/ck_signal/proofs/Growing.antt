@@ -1,0 +1,38 @@
+-- The log and the answers grow along a run.
+use Rattle.std.proofs.Common.{◌≡◌, ℕ, suc, ◌≤◌, le_refl, List, [], ◌∷◌, ◌++◌, length, length-append, append-nil, append_assoc, sym, ap, ◌∙◌, subst, arith}
+use Rattle.std.proofs.Math.Nat.{le_trans}
+use Rattle.ck_run.specs.declared.account.Entry.{Entry}
+use Rattle.ck_run.specs.Run.{Run, account}
+use Rattle.ck_run.proofs.Runs.{account-append}
+use Rattle.ck_epoch.specs.State.{Origin, base_of}
+use Rattle.ck_epoch.specs.Client.{Client, LogGrows, AnsweredRises}
+use Rattle.ck_signal.specs.declared.signals.Signals.{Signals}
+use Rattle.ck_signal.specs.Signals.{inside, log_of, answers_of}
+use Rattle.ck_signal.specs.Told.{log_in, answers_in}
+
+module _ {C : Type 0} (client : Client C) (grows : LogGrows client) (rises : AnsweredRises client) where
+  -- as an account gets several entries
+  log_grows : (first : ℕ) (origin : Origin C) (es fs : List Entry) → (us : List client.Update) × (client.log first origin (es ++ fs) ≡ client.log first origin es ++ us)
+  log_grows first origin es [] = ([], ap (client.log first origin) (append-nil es) ∙ sym (append-nil (client.log first origin es)))
+  log_grows first origin es (f ∷ fs) =
+      let g = grows first origin es f in
+      let r = log_grows first origin (es ++ f ∷ []) fs in
+      (g.0 ++ r.0, ap (client.log first origin) (sym (append_assoc es (f ∷ []) fs)) ∙ (r.1 ∙ (ap (λ (l : List client.Update). l ++ r.0) g.1 ∙ append_assoc (client.log first origin es) g.0 r.0)))
+
+  answers_rise : (first : ℕ) (origin : Origin C) (es fs : List Entry) → client.answered first origin es ≤ client.answered first origin (es ++ fs)
+  answers_rise first origin es [] = subst (λ (l : List Entry). client.answered first origin es ≤ client.answered first origin l) (sym (append-nil es)) (le_refl (client.answered first origin es))
+  answers_rise first origin es (f ∷ fs) = subst (λ (l : List Entry). client.answered first origin es ≤ client.answered first origin l) (append_assoc es (f ∷ []) fs)
+      (le_trans (rises first origin es f) (answers_rise first origin (es ++ f ∷ []) fs))
+
+  module _ (origin : Origin (Signals C)) (past more : Run) where
+    pub run_grows : (us : List client.Update) × (log_in client origin (past ++ more) ≡ log_in client origin past ++ us)
+    run_grows =
+        let g = log_grows (base_of origin) (inside origin) (account 0 past) (account 0 more) in
+        (g.0, ap (log_of client (base_of origin) origin) (account-append 0 past more) ∙ g.1)
+
+    pub run_rises : (r : ℕ) → answers_in client origin past r ≤ answers_in client origin (past ++ more) r
+    run_rises r = subst (λ (l : List Entry). answers_in client origin past r ≤ answers_of client (base_of origin) origin l) (sym (account-append (suc r) past more))
+        (answers_rise (base_of origin) (inside origin) (account (suc r) past) (account (suc r) more))
+
+    pub longer : length (log_in client origin past) ≤ length (log_in client origin (past ++ more))
+    longer = let e = ap length run_grows.1 ∙ length-append (log_in client origin past) run_grows.0 in omega arith

@@ -1,0 +1,5 @@
+mod Growing
+mod Kept
+mod TrueSignals
+mod Splits
+mod Steps

@@ -1,0 +1,81 @@
+-- The law of signals.
+use Rattle.std.proofs.Common.{◌≡◌, ℕ, suc, ◌<◌, ◌≤◌, ◌⊎◌, ⊎_elim, inl, inr, List, ◌∷◌, ◌++◌, length, take, drop, append_assoc, sym, ap, ◌∙◌, subst, arith}
+use Rattle.std.proofs.Math.Nat.{le_trans}
+use Rattle.std.proofs.Math.Seq.{take-append_seam}
+use Rattle.std.proofs.lemmas.List.{take-append-le, take-append-drop}
+use Rattle.std.proofs.lemmas.Bool.{cases_lt}
+use Rattle.ck_run.specs.declared.account.Entry.{Entry}
+use Rattle.ck_run.specs.Run.{Run, replay}
+use Rattle.ck_run.specs.Rule.{IsRun}
+use Rattle.ck_run.specs.Machine.{follows_of}
+use Rattle.ck_run.proofs.Moments.{run_weaker, run_before, holds_along, at_step}
+use Rattle.ck_epoch.specs.State.{Origin}
+use Rattle.ck_epoch.specs.Client.{Client, LogGrows, AnsweredRises, program}
+use Rattle.ck_signal.specs.declared.signals.Signals.{Signals}
+use Rattle.ck_signal.specs.Words.{reaches, asks}
+use Rattle.ck_signal.specs.Signals.{readers, signals, signalling}
+use Rattle.ck_signal.specs.Told.{applied, answered, log_in, answers_in, IsRunOf, IsTold, HasReached, IsPlace, AreBelow, TrueSignals}
+use Rattle.ck_signal.proofs.Growing.{run_grows, run_rises, longer}
+use Rattle.ck_signal.proofs.Kept.{AreKept, starts, keeps}
+
+-- of two beginnings of a list the shorter one begins the longer one
+begins : {A : Type 0} (xs xs' ys ys' : List A) → xs ++ xs' ≡ ys ++ ys' → length xs ≤ length ys → (more : List A) × (ys ≡ xs ++ more)
+begins {A = A} xs xs' ys ys' e short =
+    let n : ℕ = length xs in
+    let same : take n ys ≡ xs = sym (take-append-le n ys ys' short) ∙ (ap (take n) (sym e) ∙ take-append_seam xs xs') in
+    (drop n ys, sym (take-append-drop n ys) ∙ ap (λ (l : List A). l ++ drop n ys) same)
+
+cases_le : (n m : ℕ) → (n ≤ m) ⊎ (m ≤ n)
+cases_le n m = ⊎_elim (λ (l : n < m). inl (omega arith)) (λ (l : m ≤ n). inr l) (cases_lt n m)
+
+module _ {C : Type 0} (client : Client C) (grows : LogGrows client) (rises : AnsweredRises client) (origin : Origin (Signals C)) where
+  as_signals : (run : Run) → IsRunOf client origin run → IsRun (follows_of (signalling client)) origin run
+  as_signals run r = run_weaker (program (signals client)) (follows_of (signalling client)) origin run (λ n es f. (f.1, f.3.1)) r
+
+  told : (past rest : Run) → IsRunOf client origin (past ++ rest) → IsTold client origin past (replay origin.words past)
+  told past rest r =
+      (holds_along (signalling client) (λ o. AreKept client o) (λ o. starts client o) (λ o. keeps client grows rises o) origin past (run_before (signalling client) origin past rest (as_signals (past ++ rest) r))).told
+
+  -- `reached` found at most the length of the log then, and the log grows
+  reached : (past rest : Run) (r n : ℕ) → IsRunOf client origin (past ++ rest) → HasReached client origin past r n → n ≤ length (log_in client origin past)
+  reached past rest r n run h =
+      let before : Run = h.0 in
+      let after : Run = h.1 in
+      let found : ℕ = h.2 in
+      let x : ℕ × Entry = (suc r, reaches (applied client origin) n found) in
+      let whole = subst (IsRunOf client origin) (ap (λ (l : Run). l ++ rest) h.3 ∙ append_assoc before (x ∷ after) rest) run in
+      let loaded = (at_step (signalling client) origin before (after ++ rest) x.0 x.1 (as_signals _ whole)).1 in
+      let so : found ≤ length (log_in client origin before) = subst (λ (k : ℕ). k ≤ length (log_in client origin before)) (sym loaded) (told before (x ∷ (after ++ rest)) whole).updates in
+      le_trans h.4 (le_trans so (subst (λ (l : Run). length (log_in client origin before) ≤ length (log_in client origin l)) (sym h.3) (longer client grows rises origin before (x ∷ after))))
+
+  -- a moment by which an answer wasn't given yet comes before one by which it was
+  below : (past rest : Run) (r i place : ℕ) → i < answers_in client origin past r → IsPlace client origin (past ++ rest) r i place → place ≤ length (log_in client origin past)
+  below past rest r i place given p =
+      let moment : Run = p.0 in
+      subst (λ (k : ℕ). k ≤ length (log_in client origin past)) (sym p.4)
+      (⊎_elim
+      (λ (early : length moment ≤ length past).
+      let b = begins moment p.1 past rest (sym p.2) early in
+      subst (λ (l : Run). length (log_in client origin moment) ≤ length (log_in client origin l)) (sym b.1) (longer client grows rises origin moment b.0))
+      (λ (late : length past ≤ length moment).
+      let b = begins past rest moment p.1 p.2 late in
+      let few : answers_in client origin past r ≤ i = le_trans (subst (λ (l : Run). answers_in client origin past r ≤ answers_in client origin l r) (sym b.1) (run_rises client grows rises origin past b.0 r)) p.3 in
+      absurd (omega arith))
+      (cases_le (length moment) (length past)))
+
+  answered_then : (past rest : Run) (r k : ℕ) → r < readers origin → IsRunOf client origin (past ++ (0, asks (answered client origin r) r k) ∷ rest)
+      → AreBelow client origin past (past ++ (0, asks (answered client origin r) r k) ∷ rest) r k (length (log_in client origin past))
+  answered_then past rest r k low run =
+      let x : ℕ × Entry = (0, asks (answered client origin r) r k) in
+      let loaded = (at_step (signalling client) origin past rest 0 x.1 (as_signals _ run)).1 in
+      let given : k ≤ answers_in client origin past r = subst (λ (n : ℕ). n ≤ answers_in client origin past r) (sym loaded) ((told past (x ∷ rest) run).answers r low) in
+      record { given = given; places = λ i place few p. below past (x ∷ rest) r i place (le_trans few given) p }
+
+pub true_signals : {C : Type 0} (client : Client C) → LogGrows client → AnsweredRises client → TrueSignals client
+true_signals client grows rises = record {
+  grows = λ origin past more. run_grows client grows rises origin past more;
+  rises = λ origin past more r. run_rises client grows rises origin past more r;
+  told = λ origin past rest r. told client grows rises origin past rest r;
+  reached = λ origin past rest r n run h. reached client grows rises origin past rest r n run h;
+  answered = λ origin past rest r k low run. answered_then client grows rises origin past rest r k low run;
+}

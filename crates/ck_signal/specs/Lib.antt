@@ -1,0 +1,4 @@
+pub mod Words
+pub mod Signals
+pub mod Laws
+pub mod Told

@@ -1,0 +1,10 @@
+pub mod Log
+pub mod Places
+pub mod Tokens
+pub mod Journal
+pub mod Growing
+pub mod Version
+pub mod Copies
+pub mod Publishing
+pub mod Subscribing
+pub mod Ends

@@ -1,0 +1,30 @@
+-- The log of a dictionary, and the map after it.
+use Rattle.std.specs.Prelude.{◌≡◌, ℕ, List, [], map}
+use Rattle.std.specs.Ordering.{nat_cmp}
+use Rattle.ck_history.specs.declared.log.LogEntry.{LogEntry}
+use Rattle.ck_history.specs.declared.update.Update.{Update}
+use Rattle.ck_history.specs.Map.{Map, after_from, replies}
+use Rattle.ck_history.specs.Page.{Page}
+
+-- answered updates with their replies, in order
+abbrev pub Log : Type 0
+Log = List (LogEntry ℕ)
+
+abbrev pub updates : Log → List (Update ℕ)
+updates log = map (λ e. e.update) log
+
+-- the most pairs
+abbrev pub capacity : ℕ
+capacity = 65536
+
+-- the map after all updates of the log
+abbrev pub map_after : Log → Map ℕ
+map_after log = after_from nat_cmp capacity [] (updates log)
+
+-- each reply is the map's
+abbrev pub AreReplies : Log → Type 0
+AreReplies log = map (λ e. e.reply) log ≡ replies nat_cmp capacity (updates log)
+
+-- the map after all updates, as a book
+abbrev pub page_after : Log → Page ℕ
+page_after log = record { most = capacity; pairs = map_after log }

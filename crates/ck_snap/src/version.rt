@@ -1,0 +1,59 @@
+//! Which version of the map a copy is.
+ghost use Rattle.std.specs.Prelude.{◌≡◌, ◌≤◌, ◌^◌, length, ◌↔◌, IsTrue, None, OnOk, OnErr};
+ghost use Rattle.ck_snap.specs.Version.{log_of, book_of};
+
+use crate::history::{Length, Prefix};
+use ck_history::{Key, LogEntry};
+use std::alloc::AllocError;
+
+/// The part of the log that a version comes from: a prefix of it, and perhaps one update more. Such an update is answered,
+/// and is put into the log before the next version.
+#[derive(Drop)]
+pub struct Version {
+    pub prefix: Prefix,
+    pub last: Option<LogEntry<Key>>,
+}
+
+impl Version {
+    pub fn again(&self) -> Version
+        ensures { result ≡ self.now }
+    {
+        Version {
+            prefix: self.prefix.again(),
+            last: self.last,
+        }
+    }
+
+    /// How many updates it comes from.
+    pub fn count(&self) -> u64
+        ensures { result ≡ length (log_of self.now) }
+    {
+        match self.last {
+            Some(_) => self.prefix.count() + 1,
+            None => self.prefix.count(),
+        }
+    }
+
+    /// The same version, with its last update in the log. `Err` where the shared word isn't the log's length, which no call lets be.
+    pub fn settle(&mut self, word: &Length) -> Result<(), AllocError>
+        requires book { book_of self.old ≡ word.now }
+        requires room { length (log_of self.old) ≤ 2 ^ 62 }
+        ensures same { (book_of self.new ≡ book_of self.old) × (log_of self.new ≡ log_of self.old) }
+        ensures settled { OnOk result (self.new.last ≡ None) }
+    {
+        if let Some(entry) = self.last {
+            self.prefix = self.prefix.with(word, &entry).ok_or(AllocError)?;
+            self.last = None;
+        }
+        Ok(())
+    }
+
+    /// Whether both are in the log whole, and as long. Then they come from the same updates.
+    pub fn agrees(&self, other: &Version) -> bool
+        requires { book_of self.now ≡ book_of other.now }
+        ensures when { IsTrue result ↔ (self.now.last ≡ None) × (other.now.last ≡ None) × (length self.now.prefix.log ≡ length other.now.prefix.log) }
+        ensures same { IsTrue result → log_of self.now ≡ log_of other.now }
+    {
+        self.last.is_none() && other.last.is_none() && self.prefix.is_as_long(&other.prefix)
+    }
+}
