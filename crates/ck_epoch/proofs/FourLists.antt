@@ -28,6 +28,13 @@ on-off i j other (r ∷ xs) = dite (ℕ_discrete (r.epoch % 4) j)
     (λ (e : r.epoch % 4 ≡ j). ap (on i) (off_same j r xs e) ∙ (on-off i j other xs ∙ sym (on_other i r xs (λ z. other (sym z ∙ e)))))
     (λ (n : r.epoch % 4 ≢ j). ap (on i) (off_other j r xs n) ∙ ap (λ (ys : List Retired). cond (is_on i r) (r ∷ ys) ys) (on-off i j other xs))
 
+-- and none of a list that is gone
+pub on_gone : (list : ℕ) (xs : List Retired) → on list (off list xs) ≡ []
+on_gone list [] = refl
+on_gone list (r ∷ xs) = dite (ℕ_discrete (r.epoch % 4) list)
+    (λ e. ap (on list) (off_same list r xs e) ∙ on_gone list xs)
+    (λ n. ap (on list) (off_other list r xs n) ∙ (on_other list r (off list xs) n ∙ on_gone list xs))
+
 abbrev off_all : List Retired → List Retired
 off_all xs = off 3 (off 2 (off 1 (off 0 xs)))
 

@@ -1,5 +1,5 @@
 -- What a poll leaves of the writer's queue.
-use Rattle.std.proofs.Common.{◌≡◌, ℕ, ◌+◌, ◌-◌, ◌%◌, ◌<◌, ◌≤◌, Bool, List, [], ◌++◌, length, length-append, append_assoc, sym, ap, ◌∙◌, subst, refl, arith}
+use Rattle.std.proofs.Common.{◌≡◌, ℕ, ◌+◌, ◌-◌, ◌%◌, ◌<◌, ◌≤◌, Bool, true, false, cond, List, [], ◌++◌, length, length-append, append_assoc, sym, ap, ◌∙◌, subst, refl, arith}
 use Rattle.ck_words.specs.declared.back.Back.{Back}
 use Rattle.ck_run.specs.Tokens.{Table, table, origin}
 use Rattle.ck_epoch.specs.declared.about.About.{About}
@@ -12,7 +12,7 @@ use Rattle.ck_epoch.specs.Client.{Client}
 use Rattle.ck_epoch.specs.Ends.{IsWriter}
 use Rattle.ck_epoch.specs.Calls.{gone}
 use Rattle.ck_epoch.specs.Scan.{gone_first, IsDone}
-use Rattle.ck_epoch.proofs.FourLists.{one, still_retired, length_by_list, queue_off, queue_on, queue_by_list, queue_behind}
+use Rattle.ck_epoch.proofs.FourLists.{one, on_gone, still_retired, length_by_list, queue_off, queue_on, queue_by_list, queue_behind}
 
 -- the token's domain is the one that keeps this
 pub config_is : {C : Type 0} (t : Token C) (d now : Table (About C)) (about : About C) → table t ≡ now → d ≡ now → d.origin.config ≡ about → (origin t).config ≡ about
@@ -60,6 +60,15 @@ kept_one e ks = queue_off ((e - 2) % 4) ks
 
 pub kept_two : (e : ℕ) (ks : List Retirement) → queue (off_list ((e - 1) % 4) (off_list ((e - 2) % 4) ks)) ≡ off ((e - 1) % 4) (off ((e - 2) % 4) (queue ks))
 kept_two e ks = queue_off ((e - 1) % 4) (off_list ((e - 2) % 4) ks) ∙ ap (off ((e - 1) % 4)) (kept_one e ks)
+
+-- by the account no item is pending of a list that was dispatched
+pub none_on : (list : ℕ) (ks : List Retirement) → on list (queue (off_list list ks)) ≡ []
+none_on list ks = ap (on list) (queue_off list ks) ∙ on_gone list (queue ks)
+
+-- the same where a poll may have dispatched all
+pub none_on_yet : (done : Bool) (list : ℕ) (ks : List Retirement) → on list (queue (cond done [] (off_list list ks))) ≡ []
+none_on_yet true list ks = refl
+none_on_yet false list ks = none_on list ks
 
 -- what was dispatched behind what was dispatched before, as the account tells it
 module _ (e : ℕ) (s : TokenState) where

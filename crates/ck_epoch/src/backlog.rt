@@ -2,10 +2,13 @@
 ghost use Rattle.std.specs.Prelude.{◌≡◌, ◌+◌, ◌<◌, ◌≤◌, ◌^◌, [], ◌∷◌, ◌++◌, length, IfOk};
 ghost use Rattle.std.specs.Option.{MatchOption};
 ghost use Rattle.std.specs.VecDeque.{deque_len, deque_capacity};
+ghost use Rattle.ck_epoch.specs.State.{queue, state};
 ghost use Rattle.ck_epoch.specs.Lists.{on, off, by_list, homes, answered, Answers, AreRetired};
 
+use crate::about::About;
 use crate::client::Client;
 use crate::item::{Item, Retired};
+use ck_run::Token;
 use ck_words::Back;
 use std::alloc::{AllocError, Global};
 use std::collections::VecDeque;
@@ -103,8 +106,8 @@ impl Backlog {
         self.waiting.pop_front()
     }
 
-    /// Dispatches one list: its items leave in order of retirement, and the handler's answer for each waits. Answers how many.
-    pub(crate) fn dispatch_list<C: Client, F: Fn(Item) -> Back>(
+    // Takes the items of one list out, in order of retirement; the handler's answer for each waits. Answers how many.
+    fn hand_out<C: Client, F: Fn(Item) -> Back>(
         &mut self,
         client: &C,
         list: u64,
@@ -119,22 +122,46 @@ impl Backlog {
         dispatch(client, list, &mut self.pending, &mut self.waiting, handler)
     }
 
-    /// Dispatches all lists in order of their numbers, each in order of retirement. Answers how many items that were.
+    /// Dispatches one list: its items leave in order of retirement, and the handler's answer for each waits. Answers how many. The step
+    /// that dispatches them was made: by the writer's account none of that list is pending any more.
+    pub(crate) fn dispatch_list<C: Client, F: Fn(Item) -> Back>(
+        &mut self,
+        client: &C,
+        token: &Token<About<C>>,
+        list: u64,
+        handler: &F,
+    ) -> u64
+        requires after { on list (queue (state token.now).pending) ≡ [] }
+        requires handler { Answers (C.meaning.retires client.now) (C.meaning.home client.now) (F.pre handler.now) (F.post handler.now) }
+        requires retired { AreRetired (C.meaning.retires client.now) self.old.pending }
+        ensures backlog { self.new ≡ answered (C.meaning.home client.now) (on list self.old.pending) (off list self.old.pending) self.old }
+        ensures count { result ≡ length (on list self.old.pending) }
+        ensures total { (result + length self.new.pending ≡ length self.old.pending) × (length self.old.pending < 2 ^ 63) }
+    {
+        let _token = token;
+        self.hand_out(client, list, handler)
+    }
+
+    /// Dispatches all lists in order of their numbers, each in order of retirement. Answers how many items that were. The step that
+    /// dispatches them was made: by the writer's account nothing is pending any more.
     pub(crate) fn dispatch_all<C: Client, F: Fn(Item) -> Back>(
         &mut self,
         client: &C,
+        token: &Token<About<C>>,
         handler: &F,
     ) -> u64
+        requires after { (state token.now).pending ≡ [] }
         requires handler { Answers (C.meaning.retires client.now) (C.meaning.home client.now) (F.pre handler.now) (F.post handler.now) }
         requires retired { AreRetired (C.meaning.retires client.now) self.old.pending }
         ensures backlog { self.new ≡ answered (C.meaning.home client.now) (by_list self.old.pending) [] self.old }
         ensures count { result ≡ length self.old.pending }
     {
+        let _token = token;
         let all = self.pending();
-        self.dispatch_list(client, 0, handler);
-        self.dispatch_list(client, 1, handler);
-        self.dispatch_list(client, 2, handler);
-        self.dispatch_list(client, 3, handler);
+        self.hand_out(client, 0, handler);
+        self.hand_out(client, 1, handler);
+        self.hand_out(client, 2, handler);
+        self.hand_out(client, 3, handler);
         all
     }
 }

@@ -110,10 +110,11 @@ impl<C: Client> Domain<C> {
         ensures epoch { (state writer.new.token).epoch ≡ (state writer.old.token).epoch + 2 }
         ensures part { IsInRun C.meaning writer.new.token }
     {
+        let client = &self.about.client;
         self.two_rounds::<Brand, R>(rt, &mut writer.token);
         writer.calls += 1;
         writer
             .backlog
-            .dispatch_all(&self.about.client, &writer.handler)
+            .dispatch_all(client, &writer.token, &writer.handler)
     }
 }

@@ -174,17 +174,19 @@ impl<C: Client> Domain<C> {
         let epoch = self.start_poll(&mut writer.token);
         let before = writer
             .backlog
-            .dispatch_list(client, (epoch - 2) % 4, &writer.handler);
+            .dispatch_list(client, &writer.token, (epoch - 2) % 4, &writer.handler);
         writer.calls += 1;
         match self.scan(&mut writer.token, epoch) {
             Scan::Clear => {
-                let rest = writer.backlog.dispatch_all(client, &writer.handler);
+                let rest = writer
+                    .backlog
+                    .dispatch_all(client, &writer.token, &writer.handler);
                 Poll::Clear { n: before + rest }
             }
             Scan::Current { rec } => {
                 let rest = writer
                     .backlog
-                    .dispatch_list(client, (epoch - 1) % 4, &writer.handler);
+                    .dispatch_list(client, &writer.token, (epoch - 1) % 4, &writer.handler);
                 Poll::Moved {
                     n: before + rest,
                     rec,

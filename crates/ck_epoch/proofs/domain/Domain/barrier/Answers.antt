@@ -19,6 +19,9 @@ two_rounds-requires-clause-free g c = is_free g.C.Client.meaning c.writer.inside
 pub two_rounds-requires-clause-name : goal.two_rounds-requires-clause-name
 two_rounds-requires-clause-name g c = (true, refl)
 
+pub dispatch_all-requires-clause-after : goal.dispatch_all-requires-clause-after
+dispatch_all-requires-clause-after g c = ap (λ (s : TokenState). s.pending) (c.two_rounds.ensures.state true refl)
+
 pub invariant_of-writer : goal.invariant_of-writer
 invariant_of-writer g c =
     let t = c.writer.inside.token in

@@ -1,13 +1,27 @@
 use Rattle.std.proofs.Common.{◌≡◌, ℕ, ◌+◌, ◌-◌, ◌%◌, List, ◌++◌, length, ◌∙◌, sym, ap, subst}
 use Rattle.ck_run.specs.Tokens.{table, origin}
 use Rattle.ck_epoch.specs.declared.item.Retired.{Retired}
-use Rattle.ck_epoch.specs.State.{Token, queue, off_list, state}
+use Rattle.ck_epoch.specs.State.{Token, Retirement, queue, off_list, state}
 use Rattle.ck_epoch.specs.Lists.{Backlog, on, off, by_list}
 use Rattle.ck_epoch.specs.declared.answers.Poll.TheVariants.{Clear, Moved, Blocked}
 use Rattle.ck_epoch.specs.Calls.{gone}
 use Rattle.ck_epoch.specs.Ends.{Writer}
-use Rattle.ck_epoch.proofs.Polled.{config_is, left_retired, left_queue, rest_retired, rest_queue, writer_after, calls_after, kept_one, kept_two, gone_one, gone_two, gone_all, count_all}
+use Rattle.ck_epoch.proofs.Polled.{config_is, none_on, none_on_yet, left_retired, left_queue, rest_retired, rest_queue, writer_after, calls_after, kept_one, kept_two, gone_one, gone_two, gone_all, count_all}
 use Rattle.ck_epoch.proofs.domain.Domain.poll.Goals as goal
+
+pub dispatch_list-before-requires-clause-after : goal.dispatch_list-before-requires-clause-after
+dispatch_list-before-requires-clause-after g c =
+    let scanning = c.start_poll-epoch.ensures.scanning in
+    ap (λ (ks : List Retirement). on ((c.start_poll-epoch.result - 2) % 4) (queue ks)) scanning.pending ∙ none_on_yet _ ((c.start_poll-epoch.result - 2) % 4) (state c.writer.inside.token).pending
+
+pub dispatch_list-rest-requires-clause-after : goal.dispatch_list-rest-requires-clause-after
+dispatch_list-rest-requires-clause-after g c =
+    let did = c.in-Current.ensures.outcome c.writer.inside.token c.start_poll-epoch.ensures.scanning in
+    let list = (c.start_poll-epoch.result - 1) % 4 in
+    ap (λ (ks : List Retirement). on list (queue ks)) did.1.pending_is ∙ none_on list (off_list ((c.start_poll-epoch.result - 2) % 4) (state c.writer.inside.token).pending)
+
+pub dispatch_all-rest-requires-clause-after : goal.dispatch_all-rest-requires-clause-after
+dispatch_all-rest-requires-clause-after g c = (c.in-Clear.ensures.outcome c.writer.inside.token c.start_poll-epoch.ensures.scanning).1.pending_is
 
 pub dispatch_all-rest-requires-clause-retired : goal.dispatch_all-rest-requires-clause-retired
 dispatch_all-rest-requires-clause-retired g c =
