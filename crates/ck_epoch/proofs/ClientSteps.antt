@@ -1,15 +1,13 @@
 -- A step on a word of the client's, by a token between two calls, leaves the epochs as they are.
-use Rattle.std.proofs.Common.{◌≡◌, ℕ, zero, suc, ◌+◌, ◌<◌, ◌≤◌, ◌⊎◌, inl, inr, Bool, true, false, cond, nat_lt, List, [], ◌∷◌, refl, sym, ap, ◌∙◌, subst, arith}
+use Rattle.std.proofs.Common.{◌≡◌, ℕ, zero, suc, ◌+◌, ◌<◌, ◌≤◌, inr, Bool, true, false, cond, nat_lt, List, [], refl, sym, ap, ◌∙◌, subst, arith}
 use Rattle.std.proofs.lemmas.Bool.Decides.{nat_tests}
 use Rattle.ck_run.specs.declared.account.Step.{Step}
 use Rattle.ck_run.specs.declared.account.Step.TheVariants.{Load, Store, Exchange}
-use Rattle.ck_run.specs.declared.account.Entry.{Entry}
 use Rattle.ck_run.specs.Run.{entry}
-use Rattle.ck_run.specs.Tokens.{Table, table, did, number, origin, adding, MayMake}
-use Rattle.ck_run.proofs.Moments.{origin_stays, number_stays}
+use Rattle.ck_run.specs.Tokens.{Table, table, number, origin, MayMake}
 use Rattle.ck_epoch.specs.declared.about.About.{About}
-use Rattle.ck_epoch.specs.State.{Origin, Token, TokenState, Stage, outside, inside, free, base, base_of, records_of, at_depth, depth_of, queue, after_step, next, MayStep, state, depth}
-use Rattle.ck_epoch.specs.Lists.{Backlog, AreRetired}
+use Rattle.ck_epoch.specs.State.{Origin, Token, TokenState, Stage, outside, inside, free, base, base_of, records_of, at_depth, after_step, MayStep, state, depth}
+use Rattle.ck_epoch.specs.Lists.{Backlog}
 use Rattle.ck_epoch.specs.Client.{Client, IsGuarded, program}
 use Rattle.ck_epoch.specs.Ends.{IsInRun, IsWriting, IsReading, IsWriter, IsPass}
 use Rattle.ck_epoch.specs.Calls.{MayFollow}

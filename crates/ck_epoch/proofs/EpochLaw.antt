@@ -1,18 +1,16 @@
 -- The law of epochs: what each step keeps holds at every moment of every true run, and says that the run is safe.
-use Rattle.std.proofs.Common.{◌≡◌, ℕ, zero, suc, ◌+◌, ◌%◌, ◌<◌, ◌≤◌, Option, Some, None, List, [], ◌∷◌, ◌++◌, length, get_or, All, refl, sym, ap, ◌∙◌, subst, arith}
+use Rattle.std.proofs.Common.{◌≡◌, ℕ, suc, ◌+◌, ◌<◌, ◌≤◌, List, [], ◌++◌, get_or, refl, sym, ◌∙◌, subst, arith}
 use Rattle.std.proofs.lemmas.Bool.{eqb-true}
 use Rattle.std.proofs.lemmas.List.Elements.{All-filter, All-nil, filter_passes}
 use mathlib.Core.Option.{some-ne-none}
-use Rattle.ck_run.specs.declared.account.Entry.{Entry}
 use Rattle.ck_run.specs.Run.{Run, replay, account}
 use Rattle.ck_run.specs.Rule.{IsRun}
 use Rattle.ck_run.specs.Machine.{IsInvariantAlong, follows_of}
 use Rattle.ck_run.proofs.Moments.{holds_along, run_before}
-use Rattle.ck_epoch.specs.declared.about.About.{About}
 use Rattle.ck_epoch.specs.Lists.{is_on}
-use Rattle.ck_epoch.specs.State.{active_word, epoch_word, Stage, holding, inside, Retirement, TokenState, start, next, May, Origin, records_of, IsOpening, epochs, state_at}
+use Rattle.ck_epoch.specs.State.{epoch_word, Stage, holding, inside, Retirement, TokenState, start, next, May, Origin, records_of, IsOpening, epochs, state_at}
 use Rattle.ck_epoch.specs.Epochs.{place, IsOpen, IsPassed, IsRetired, writer_in, stage_in, IsSafeNow, IsSafe, AreEpochs, KeepsEpochs, HasWaited, Reclamation}
-use Rattle.ck_epoch.specs.Held.{IsTimely, IsCurrent, IsGuarded, IsOpenAt, IsRecord, AreHeld}
+use Rattle.ck_epoch.specs.Held.{IsTimely, IsCurrent, IsGuarded, IsOpenAt, AreHeld}
 use Rattle.ck_epoch.proofs.Keeps.{keeps}
 use Rattle.ck_epoch.proofs.RecordsKept.{none_some}
 

@@ -1,8 +1,7 @@
 -- Each step of each token of a domain keeps what holds at every moment.
-use Rattle.std.proofs.Common.{◌≡◌, ◌≢◌, ℕ, zero, suc, ◌+◌, ◌-◌, ◌*◌, ◌^◌, ◌<◌, ◌≤◌, ◌⊎◌, ⊎_elim, inl, inr, Bool, true, false, ◌&&◌, cond, ◌==◌, eq-eqb, ne_eqb, nat_lt, Option, Some, None, List, [], ◌∷◌, ◌++◌, length, All, set, get_or, length-set, get_or-set_other, get_or-set_same, refl, sym, ap, ◌∙◌, subst, arith}
+use Rattle.std.proofs.Common.{◌≡◌, ◌≢◌, ℕ, zero, suc, ◌+◌, ◌-◌, ◌^◌, ◌<◌, ◌≤◌, ◌⊎◌, ⊎_elim, inl, inr, Bool, true, false, ◌&&◌, cond, ◌==◌, eq-eqb, nat_lt, Option, Some, None, List, [], ◌∷◌, ◌++◌, length, All, set, get_or, length-set, get_or-set_other, get_or-set_same, refl, sym, ap, ◌∙◌, subst, arith}
 use Rattle.std.proofs.lemmas.Bool.{eqb-true}
 use Rattle.std.proofs.lemmas.Bool.Decides.{nat_tests}
-use Rattle.std.proofs.lemmas.List.{set-get_or}
 use mathlib.Core.Logic.{dite}
 use native.Mathlib.Decide.{ℕ_discrete, dec_lt}
 use Rattle.ck_run.specs.declared.account.Step.{Step}
@@ -13,9 +12,9 @@ use Rattle.ck_run.specs.Range.{word_of}
 use Rattle.ck_run.specs.Machine.{moved, IsInvariantAlong}
 use Rattle.ck_run.proofs.Law.{moved_here, moved_else}
 use Rattle.ck_run.proofs.Runs.{account_here, account_else}
-use Rattle.ck_epoch.specs.State.{base, active_word, epoch_word, begin, end, retire, poll, synchronize, barrier, Task, polling, first_round, second_round, Stage, outside, entering, holding, inside, free, scanning, comparing, between, Retirement, retirement, TokenState, at_depth, first_busy, is_clear, dispatch, dispatch_all, GoesOn, Calls, after_load, after_record, after_blocked, after_raise, after_step, next, IsClients, SetsActive, Retires, MayStep, May}
-use Rattle.ck_epoch.specs.Epochs.{place, IsOpen}
-use Rattle.ck_epoch.specs.Held.{IsOfWriter, IsOfPass, IsTimely, IsCurrent, IsRecord, risen, IsWriter, AreHeld}
+use Rattle.ck_epoch.specs.State.{base, active_word, epoch_word, poll, synchronize, barrier, Task, polling, first_round, second_round, Stage, outside, entering, holding, inside, free, scanning, comparing, between, Retirement, retirement, TokenState, at_depth, first_busy, is_clear, dispatch, dispatch_all, Calls, after_load, after_record, after_blocked, after_raise, after_step, next, SetsActive, Retires, MayStep, May}
+use Rattle.ck_epoch.specs.Epochs.{IsOpen}
+use Rattle.ck_epoch.specs.Held.{IsOfWriter, IsOfPass, IsRecord, risen, IsWriter, AreHeld}
 use Rattle.ck_epoch.proofs.Places.{count, open_cases, open_else, open_stays, not_ended}
 use Rattle.ck_epoch.proofs.Records as pass
 use Rattle.ck_epoch.proofs.RecordsKept as record_

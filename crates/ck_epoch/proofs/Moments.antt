@@ -1,12 +1,12 @@
 -- What the law tells at a step of a token, in whatever true run it stands.
-use Rattle.std.proofs.Common.{◌≡◌, ◌≢◌, ℕ, zero, suc, ◌+◌, ◌*◌, ◌<◌, ◌≤◌, Bool, true, false, cond, ◌==◌, eq-eqb, ne_eqb, List, [], ◌∷◌, ◌++◌, length, drop, get_or, refl, sym, ap, ◌∙◌, subst, arith}
+use Rattle.std.proofs.Common.{◌≡◌, ◌≢◌, ℕ, suc, ◌<◌, cond, eq-eqb, ne_eqb, List, [], ◌∷◌, ◌++◌, drop, get_or, refl, sym, ap, ◌∙◌, subst}
 use mathlib.Core.Logic.{dite}
 use native.Mathlib.Decide.{ℕ_discrete}
 use Rattle.ck_run.specs.declared.account.Step.TheVariants.{Load, Exchange}
 use Rattle.ck_run.specs.declared.account.Entry.{Entry}
 use Rattle.ck_run.specs.Run.{Run, Fits, replay, account}
-use Rattle.ck_run.specs.Rule.{Follows, IsRun, IsPart}
-use Rattle.ck_run.specs.Tokens.{origin, number, did, adding, Makes}
+use Rattle.ck_run.specs.Rule.{Follows, IsRun}
+use Rattle.ck_run.specs.Tokens.{origin, number, did, Makes}
 use Rattle.ck_run.specs.Machine.{IsAt, follows_of}
 use Rattle.ck_run.proofs.Moments.{run_weaker, run_before, at_step}
 use Rattle.ck_epoch.specs.declared.about.About.{About}

@@ -1,7 +1,7 @@
 -- The tokens at the beginning and at the end.
-use Rattle.std.proofs.Common.{◌≡◌, ℕ, zero, suc, ◌+◌, ◌-◌, ◌*◌, ◌<◌, ◌≤◌, true, List, [], ◌∷◌, ◌++◌, length, take, drop, All, refl, sym, ap, ◌∙◌, subst, arith}
+use Rattle.std.proofs.Common.{◌≡◌, ℕ, suc, ◌+◌, ◌-◌, ◌<◌, ◌≤◌, true, List, [], ◌∷◌, ◌++◌, length, take, drop, All, refl, sym, ap, ◌∙◌, subst, arith}
 use Rattle.std.proofs.lemmas.List.{length-drop}
-use Rattle.std.proofs.lemmas.List.Elements.{All-nil, All-cons, All-head, All-tail, All-append}
+use Rattle.std.proofs.lemmas.List.Elements.{All-nil, All-cons}
 use Rattle.std.proofs.Math.Seq.{take-append_seam}
 use Rattle.ck_run.specs.declared.account.Account.{Account}
 use Rattle.ck_run.specs.declared.account.View.{View}
@@ -11,8 +11,8 @@ use Rattle.ck_run.specs.Machine.{follows_of}
 use Rattle.ck_run.specs.Tokens.{Table, table, viewing, number, did, origin}
 use Rattle.ck_run.proofs.Moments.{run_weaker}
 use Rattle.ck_epoch.specs.declared.about.About.{About}
-use Rattle.ck_epoch.specs.State.{Origin, Token, TokenState, IsOpening, start, outside, records_of, base_of, epochs, queue, state}
-use Rattle.ck_epoch.specs.Client.{Client, Starts, IsClientOpening, program}
+use Rattle.ck_epoch.specs.State.{Origin, Token, TokenState, start, records_of, base_of, epochs, queue, state}
+use Rattle.ck_epoch.specs.Client.{Client, Starts, program}
 use Rattle.ck_epoch.specs.declared.item.Retired.{Retired}
 use Rattle.ck_epoch.specs.Lists.{Backlog, AreRetired}
 use Rattle.ck_epoch.specs.Ends.{Pass, IsInRun, IsWriter, IsPass}

@@ -1,13 +1,12 @@
 -- What a poll leaves of the writer's queue.
-use Rattle.std.proofs.Common.{◌≡◌, ℕ, ◌+◌, ◌-◌, ◌%◌, ◌<◌, ◌≤◌, Bool, true, false, cond, List, [], ◌++◌, length, length-append, append_assoc, sym, ap, ◌∙◌, subst, refl, arith}
-use Rattle.ck_words.specs.declared.back.Back.{Back}
+use Rattle.std.proofs.Common.{◌≡◌, ℕ, ◌+◌, ◌-◌, ◌%◌, ◌≤◌, Bool, true, false, cond, List, [], ◌++◌, length, length-append, append_assoc, sym, ap, ◌∙◌, subst, refl, arith}
 use Rattle.ck_run.specs.Tokens.{Table, table, origin}
 use Rattle.ck_epoch.specs.declared.about.About.{About}
 use Rattle.ck_epoch.specs.declared.item.Item.{Item}
 use Rattle.ck_epoch.specs.declared.item.Retired.{Retired}
 use Rattle.ck_epoch.specs.declared.answers.Poll.TheVariants.{Clear, Moved}
-use Rattle.ck_epoch.specs.State.{Origin, Token, TokenState, Retirement, on_list, off_list, list_by_list, queue, state}
-use Rattle.ck_epoch.specs.Lists.{Backlog, on, off, by_list, answered, AreRetired}
+use Rattle.ck_epoch.specs.State.{Token, TokenState, Retirement, on_list, off_list, list_by_list, queue, state}
+use Rattle.ck_epoch.specs.Lists.{Backlog, on, off, by_list, AreRetired}
 use Rattle.ck_epoch.specs.Client.{Client}
 use Rattle.ck_epoch.specs.Ends.{IsWriter}
 use Rattle.ck_epoch.specs.Calls.{gone}

@@ -1,5 +1,5 @@
 -- The steps of a poll.
-use Rattle.std.proofs.Common.{◌≡◌, ◌≢◌, ℕ, ◌+◌, ◌-◌, ◌*◌, ◌%◌, ◌<◌, ◌≤◌, ◌^◌, inl, inr, Bool, true, false, ◌&&◌, cond, ◌==◌, nat_lt, eq-eqb, ne_eqb, Option, Some, None, List, [], ◌∷◌, ◌++◌, map, length, All, length-append, refl, sym, ap, ◌∙◌, subst, arith}
+use Rattle.std.proofs.Common.{◌≡◌, ◌≢◌, ℕ, ◌+◌, ◌-◌, ◌%◌, ◌<◌, ◌≤◌, ◌^◌, inl, inr, Bool, true, false, ◌&&◌, cond, ◌==◌, eq-eqb, ne_eqb, Option, Some, None, List, [], ◌∷◌, ◌++◌, map, length, length-append, refl, sym, ap, ◌∙◌, subst, arith}
 use Rattle.std.specs.Option.{unwrap_or}
 use Rattle.std.proofs.lemmas.List.{append_assoc, map-append, append-nil}
 use Rattle.std.proofs.lemmas.List.Elements.{All-push, All-nil, All-append, All-cons}
@@ -11,11 +11,11 @@ use Rattle.ck_run.specs.Tokens.{Table, table, adding, number, origin, MayMake}
 use Rattle.ck_run.proofs.Moments.{origin_stays, number_stays, adds_one}
 use Rattle.ck_epoch.specs.declared.answers.Scan.TheVariants.{Clear, Current, Behind}
 use Rattle.ck_epoch.specs.declared.about.About.{About}
-use Rattle.ck_epoch.specs.State.{Origin, Token, TokenState, Stage, Task, polling, free, scanning, comparing, base, base_of, records_of, active_word, epoch_word, Retirement, on_list, off_list, list_by_list, dispatch, dispatch_all, first_busy, is_clear, poll, after_load, state, epochs}
+use Rattle.ck_epoch.specs.State.{Origin, Token, TokenState, Stage, polling, free, scanning, comparing, records_of, active_word, epoch_word, Retirement, on_list, off_list, list_by_list, dispatch, dispatch_all, first_busy, is_clear, poll, state}
 use Rattle.ck_epoch.specs.Client.{Client, Passes, program}
-use Rattle.ck_epoch.specs.Ends.{IsInRun, IsWriting}
-use Rattle.ck_epoch.specs.Calls.{Looked, look_steps, scan_steps, AreInactive, AreCurrent, FirstActive, FindsNone, Moves, IsBlocked}
-use Rattle.ck_epoch.specs.Scan.{IsFound, is_done, stage_at, pending_at, dispatched_at, gone_first, IsScanning, IsDone, Did}
+use Rattle.ck_epoch.specs.Ends.{IsWriting}
+use Rattle.ck_epoch.specs.Calls.{Looked, look_steps, scan_steps, AreInactive, AreCurrent}
+use Rattle.ck_epoch.specs.Scan.{IsFound, is_done, gone_first, IsScanning, Did}
 use Rattle.ck_epoch.proofs.Stepping.{Steps, may_at, state_at_step, writer_holds, writer_loads, writer_finds, opened}
 use Rattle.ck_epoch.proofs.Retiring.{lt_first}
 

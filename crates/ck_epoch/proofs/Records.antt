@@ -1,12 +1,11 @@
 -- What a step keeps of one record, of its pass's stage and of the writer.
-use Rattle.std.proofs.Common.{◌≡◌, ◌≢◌, ℕ, zero, suc, ◌+◌, ◌-◌, ◌%◌, ◌<◌, ◌≤◌, ◌⊎◌, ⊎_elim, Bool, true, false, not, cond, Option, Some, None, List, [], ◌∷◌, ◌++◌, length, get_or, All, filter, refl, sym, ap, ◌∙◌, subst, arith}
-use Rattle.std.proofs.lemmas.List.Elements.{All-filter, All-append, All-push, All-nil, filter_passes}
+use Rattle.std.proofs.Common.{◌≡◌, ◌≢◌, ℕ, ◌<◌, ◌⊎◌, ⊎_elim, Some, [], ◌∷◌, ◌++◌, length, get_or, All, refl, arith}
 use Rattle.ck_run.specs.declared.account.Entry.{Entry}
-use Rattle.ck_run.specs.Run.{Run, account}
-use Rattle.ck_epoch.specs.State.{Stage, outside, entering, holding, inside, free, scanning, comparing, between, Retirement, TokenState}
-use Rattle.ck_epoch.specs.Epochs.{place, IsOpen, IsPassed, IsRetired}
-use Rattle.ck_epoch.specs.Held.{IsOfPass, active_of, IsTimely, IsCurrent, IsQuiet, halfway, IsGuarded, IsOpenAt, IsRecord, IsWriter}
-use Rattle.ck_epoch.proofs.Places.{count, place_stays, place_below, opened_before, open_cases, open_else, open_stays, not_ended, inside as is_inside}
+use Rattle.ck_run.specs.Run.{Run}
+use Rattle.ck_epoch.specs.State.{Stage, outside, entering, holding, inside, Retirement, TokenState}
+use Rattle.ck_epoch.specs.Epochs.{place, IsOpen}
+use Rattle.ck_epoch.specs.Held.{halfway, IsGuarded, IsOpenAt, IsRecord}
+use Rattle.ck_epoch.proofs.Places.{count, place_stays, place_below}
 
 -- the entries that the writer's state names have been made
 pub record AreMade (steps : ℕ) (w : TokenState) : Type 0 where

@@ -1,15 +1,15 @@
 -- What a step of the writer keeps of one record and of its pass's stage.
-use Rattle.std.proofs.Common.{◌≡◌, ◌≢◌, ℕ, zero, suc, ◌+◌, ◌-◌, ◌*◌, ◌%◌, ◌<◌, ◌≤◌, ◌⊎◌, ⊎_elim, Bool, true, false, not, cond, ◌==◌, Option, Some, None, List, [], ◌∷◌, ◌++◌, length, get_or, All, filter, refl, sym, ap, ◌∙◌, subst, lt_of_not-le, arith}
+use Rattle.std.proofs.Common.{◌≡◌, ℕ, ◌+◌, ◌-◌, ◌%◌, ◌<◌, ◌≤◌, Bool, true, false, not, cond, Option, Some, None, List, [], ◌∷◌, ◌++◌, get_or, All, refl, sym, ap, ◌∙◌, subst, arith}
 use Rattle.std.proofs.lemmas.Bool.{eqb-true}
 use Rattle.std.proofs.lemmas.List.Elements.{All-filter, All-append, All-push, All-nil, filter_passes}
-use native.Mathlib.Decide.{dec_le, dec_lt, ℕ_discrete}
+use native.Mathlib.Decide.{ℕ_discrete}
 use mathlib.Core.Logic.{dite}
 use Rattle.ck_run.specs.declared.account.Entry.{Entry}
-use Rattle.ck_run.specs.Run.{Run, account}
+use Rattle.ck_run.specs.Run.{Run}
 use Rattle.ck_epoch.specs.Lists.{is_on}
-use Rattle.ck_epoch.specs.State.{Task, polling, first_round, second_round, Stage, outside, entering, holding, inside, free, scanning, comparing, between, Retirement, retirement, TokenState, on_list, off_list, list_by_list, dispatch, dispatch_all}
-use Rattle.ck_epoch.specs.Epochs.{place, IsOpen, IsPassed, IsRetired}
-use Rattle.ck_epoch.specs.Held.{IsOfPass, active_of, IsTimely, IsCurrent, IsQuiet, halfway, IsGuarded, IsOpenAt, IsRecord}
+use Rattle.ck_epoch.specs.State.{Task, polling, first_round, second_round, Stage, holding, inside, free, scanning, comparing, between, Retirement, TokenState, on_list, list_by_list, dispatch, dispatch_all}
+use Rattle.ck_epoch.specs.Epochs.{place, IsPassed}
+use Rattle.ck_epoch.specs.Held.{active_of, IsTimely, IsCurrent, IsQuiet, halfway, IsGuarded, IsOpenAt, IsRecord}
 use Rattle.ck_epoch.proofs.Places.{count, place_stays, open_else}
 use Rattle.ck_epoch.proofs.Records.{AreMade, open_along}
 

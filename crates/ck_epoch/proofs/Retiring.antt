@@ -1,16 +1,16 @@
 -- The load by which the writer retires an item.
-use Rattle.std.proofs.Common.{◌≡◌, ℕ, ◌+◌, ◌<◌, ◌≤◌, ◌^◌, ◌⊎◌, inl, inr, Bool, true, cond, nat_lt, List, [], ◌∷◌, ◌++◌, refl, sym, ap, ◌∙◌, subst, arith}
+use Rattle.std.proofs.Common.{◌≡◌, ℕ, ◌+◌, ◌<◌, ◌^◌, inl, Bool, true, cond, nat_lt, List, [], ◌∷◌, ◌++◌, refl, sym, ap, ◌∙◌, subst, arith}
 use Rattle.std.proofs.lemmas.List.{map-append}
 use Rattle.std.proofs.lemmas.List.Elements.{All-push}
 use Rattle.std.proofs.lemmas.Bool.Decides.{nat_tests}
 use Rattle.ck_run.specs.declared.account.Step.TheVariants.{Load}
 use Rattle.ck_run.specs.declared.account.Entry.{Entry}
 use Rattle.ck_run.specs.Run.{handing}
-use Rattle.ck_run.specs.Tokens.{adding, number, origin, MayMake}
+use Rattle.ck_run.specs.Tokens.{adding, origin, MayMake}
 use Rattle.ck_run.proofs.Moments.{origin_stays, number_stays}
 use Rattle.ck_epoch.specs.declared.item.Item.{Item}
 use Rattle.ck_epoch.specs.declared.item.Retired.{Retired}
-use Rattle.ck_epoch.specs.State.{Origin, Token, TokenState, Stage, free, base, records_of, retire, Retirement, retirement, queue, after_step, next, MayStep, state}
+use Rattle.ck_epoch.specs.State.{Origin, Token, TokenState, Stage, free, base, records_of, Retirement, retirement, queue, after_step, MayStep, state}
 use Rattle.ck_epoch.specs.Lists.{Backlog, AreRetired}
 use Rattle.ck_epoch.specs.Client.{Client, program}
 use Rattle.ck_epoch.specs.Ends.{Writer, IsWriting, IsWriter}

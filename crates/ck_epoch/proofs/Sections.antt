@@ -1,5 +1,5 @@
 -- The steps by which a pass opens a section, nests it and ends it.
-use Rattle.std.proofs.Common.{◌≡◌, ℕ, zero, suc, ◌+◌, ◌-◌, ◌*◌, ◌<◌, ◌≤◌, ◌^◌, ◌⊎◌, ⊎_elim, inl, inr, Bool, true, cond, nat_lt, List, [], ◌∷◌, ◌++◌, refl, sym, ap, ◌∙◌, subst, arith}
+use Rattle.std.proofs.Common.{◌≡◌, ℕ, zero, suc, ◌+◌, ◌-◌, ◌<◌, ◌^◌, ◌⊎◌, ⊎_elim, inl, inr, Bool, true, cond, nat_lt, List, [], ◌∷◌, refl, sym, ap, ◌∙◌, subst, arith}
 use Rattle.std.proofs.lemmas.Bool.Decides.{nat_tests}
 use Rattle.ck_run.specs.declared.account.Step.{Step}
 use Rattle.ck_run.specs.declared.account.Step.TheVariants.{Load, Store}
@@ -8,7 +8,7 @@ use Rattle.ck_run.specs.Run.{entry, further, call}
 use Rattle.ck_run.specs.Range.{word_of}
 use Rattle.ck_run.specs.Tokens.{adding, number, origin, MayMake}
 use Rattle.ck_run.proofs.Moments.{origin_stays, number_stays, adds_one}
-use Rattle.ck_epoch.specs.State.{Origin, Token, TokenState, Stage, outside, entering, holding, inside, base, base_of, records_of, active_word, epoch_word, begin, end, at_depth, depth_of, after_step, next, MayStep, state}
+use Rattle.ck_epoch.specs.State.{Origin, Token, TokenState, Stage, outside, entering, holding, inside, base, base_of, records_of, active_word, epoch_word, begin, end, at_depth, next, MayStep, state}
 use Rattle.ck_epoch.specs.Client.{Client, Passes, program}
 use Rattle.ck_epoch.specs.Ends.{IsInRun, IsPass}
 use Rattle.ck_epoch.proofs.Stepping.{Steps, may_epochs, state_after_step, pass_holds}

@@ -1,17 +1,15 @@
 -- A step of a token of a domain: when the domain and its client allow it, and where it leaves the token.
-use Rattle.std.proofs.Common.{◌≡◌, ℕ, suc, ◌+◌, ◌*◌, ◌<◌, ◌≤◌, Bool, true, false, List, [], ◌∷◌, ◌++◌, length, get_or, drop, refl, sym, ap, ◌∙◌, subst, arith, inl, cond, ◌==◌, eqb-true, eq-eqb, ne_eqb}
+use Rattle.std.proofs.Common.{◌≡◌, ℕ, suc, ◌+◌, ◌<◌, List, [], ◌∷◌, refl, sym, ap, ◌∙◌, subst, arith, inl}
 use Rattle.ck_run.specs.declared.account.Entry.{Entry}
 use Rattle.ck_run.specs.declared.account.Step.{Step}
 use Rattle.ck_run.specs.declared.account.Step.TheVariants.{Load, Exchange}
-use Rattle.ck_run.specs.Run.{Run, Fits, replay, account}
 use Rattle.ck_run.specs.Range.{word_of}
-use Rattle.ck_run.specs.Rule.{IsRun, IsPart}
 use Rattle.ck_run.specs.Machine.{IsAt, follows_of}
-use Rattle.ck_run.specs.Tokens.{adding, did, number, origin, MayMake, Makes}
+use Rattle.ck_run.specs.Tokens.{did, number, origin, MayMake, Makes}
 use Rattle.ck_run.proofs.Law.{state-append, obeys_append}
 use Rattle.ck_run.proofs.Moments.{part_weaker, part_follows}
-use Rattle.ck_epoch.specs.State.{Origin, IsOpening, Token, TokenState, Stage, MayStep, after_step, base, base_of, records_of, epochs, start, next, May, state, state_at}
-use Rattle.ck_epoch.specs.Client.{Client, IsOwn, IsOthers, Passes, IsGuarded, program}
+use Rattle.ck_epoch.specs.State.{Origin, IsOpening, Token, TokenState, Stage, MayStep, after_step, base_of, records_of, epochs, next, May, state}
+use Rattle.ck_epoch.specs.Client.{Client, Passes, IsGuarded, program}
 use Rattle.ck_epoch.specs.Ends.{IsInRun}
 use Rattle.ck_epoch.specs.Calls.{MayFollow}
 use Rattle.ck_epoch.specs.Held.{IsWriter}

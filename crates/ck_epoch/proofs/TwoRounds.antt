@@ -1,30 +1,30 @@
 -- The rounds of `synchronize` and `barrier`, and what holds after them.
-use Rattle.std.proofs.Common.{◌≡◌, ◌≢◌, ℕ, zero, suc, ◌+◌, ◌*◌, ◌^◌, ◌<◌, ◌≤◌, ◌⊎◌, ⊎_elim, inl, inr, Bool, true, false, cond, ◌==◌, nat_lt, Option, Some, None, List, [], ◌∷◌, ◌++◌, map, length, All, refl, sym, ap, ◌∙◌, subst, arith}
+use Rattle.std.proofs.Common.{◌≡◌, ℕ, ◌+◌, ◌^◌, ◌<◌, ◌≤◌, ◌⊎◌, inl, inr, Bool, true, false, cond, nat_lt, Option, None, List, [], ◌∷◌, ◌++◌, map, length, All, refl, sym, ap, ◌∙◌, subst, arith}
 use Rattle.std.proofs.lemmas.Bool.Decides.{nat_tests}
 use Rattle.std.proofs.lemmas.List.{map-append, append_assoc, append-nil, length-append}
 use Rattle.std.proofs.lemmas.List.Elements.{All-push, All-nil}
 use Rattle.ck_run.specs.declared.account.Step.{Step}
 use Rattle.ck_run.specs.declared.account.Step.TheVariants.{Load, Exchange}
 use Rattle.ck_run.specs.declared.account.Entry.{Entry}
-use Rattle.ck_run.specs.Run.{Run, entry, further, call, account}
+use Rattle.ck_run.specs.Run.{Run, entry, further, account}
 use Rattle.ck_run.specs.Rule.{IsRun}
 use Rattle.ck_run.specs.Machine.{follows_of, IsAt}
 use Rattle.ck_run.specs.Tokens.{Table, table, did, origin, number, adding, MayMake}
 use Rattle.ck_run.proofs.Moments.{run_weaker, run_before, part_weaker, table_stays, number_stays, adds_one, adding-append}
 use Rattle.ck_epoch.specs.declared.about.About.{About}
-use Rattle.ck_epoch.specs.State.{base, synchronize, barrier, poll, Task, polling, first_round, second_round, Stage, free, scanning, comparing, between, TokenState, dispatch_all, Retires, Calls, after_load, after_raise, after_step, next, MayStep, May, Origin, Token, records_of, base_of, epochs, queue, state, state_at}
-use Rattle.ck_epoch.specs.Epochs.{place, IsOpen, IsOlder}
-use Rattle.ck_epoch.specs.Held.{due, IsScan, IsWriter}
+use Rattle.ck_epoch.specs.State.{base, synchronize, barrier, poll, Task, polling, first_round, second_round, Stage, free, scanning, between, TokenState, Retires, Calls, after_load, after_raise, Origin, Token, records_of, epochs, queue, state, state_at}
+use Rattle.ck_epoch.specs.Epochs.{place, IsOpen}
+use Rattle.ck_epoch.specs.Held.{IsScan}
 use Rattle.ck_epoch.specs.Client.{Client, Passes, program}
 use Rattle.ck_epoch.specs.Lists.{Backlog, AreRetired}
 use Rattle.ck_epoch.specs.Ends.{IsInRun, IsWriter as IsBetween}
 use Rattle.ck_epoch.specs.Calls.{Looked}
 use Rattle.ck_epoch.specs.Rounds.{wait_steps, IsWait, waits_steps, IsRound, IsWaiting, name_of, after_rounds, Rounds, HaveEnded, IsScanning, ScansOn, IsFree}
-use Rattle.ck_epoch.proofs.Stepping.{Steps, may_step, may_epochs, state_after_step}
+use Rattle.ck_epoch.proofs.Stepping.{Steps, may_epochs, state_after_step}
 use Rattle.ck_epoch.proofs.EpochLaw.{held_after, has_waited}
 use Rattle.ck_epoch.proofs.Places.{count, place_stays, place_below, was_open, cut}
 use Rattle.ck_epoch.proofs.Moments.{writer_knows, loads_global, finds_global}
-use Rattle.ck_epoch.proofs.Waits.{HasPassed, next_at, may_at, with_steps, scans_both, scans_none, adds_none}
+use Rattle.ck_epoch.proofs.Waits.{HasPassed, next_at, may_at, scans_both, scans_none, adds_none}
 
 waits_snoc : (rec : ℕ) (waits : List (List Looked)) (looks : List Looked) → waits_steps rec (waits ++ looks ∷ []) ≡ waits_steps rec waits ++ wait_steps (rec + length waits) looks
 waits_snoc rec [] looks = append-nil (wait_steps rec looks) ∙ ap (λ (k : ℕ). wait_steps k looks) (omega arith)

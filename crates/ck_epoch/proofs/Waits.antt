@@ -1,20 +1,18 @@
 -- The steps of a round of `synchronize` or `barrier`.
-use Rattle.std.proofs.Common.{◌≡◌, ◌≢◌, ℕ, zero, suc, ◌+◌, ◌*◌, ◌^◌, ◌<◌, ◌≤◌, ◌⊎◌, ⊎_elim, inl, inr, Bool, true, false, ◌&&◌, cond, ◌==◌, eq-eqb, ne_eqb, nat_lt, Option, Some, None, List, [], ◌∷◌, ◌++◌, map, length, All, refl, sym, ap, ◌∙◌, subst, arith}
-use Rattle.std.proofs.lemmas.List.{map-append, append_assoc, append-nil, length-append}
+use Rattle.std.proofs.Common.{◌≡◌, ◌≢◌, ℕ, ◌+◌, ◌<◌, ⊎_elim, inl, inr, Bool, true, false, ◌&&◌, cond, ◌==◌, eq-eqb, ne_eqb, Option, List, [], ◌∷◌, ◌++◌, map, All, refl, sym, ap, ◌∙◌, subst, arith}
+use Rattle.std.proofs.lemmas.List.{map-append, append_assoc, append-nil}
 use Rattle.std.proofs.lemmas.List.Elements.{All-push, All-nil}
 use Rattle.ck_run.specs.declared.account.Step.{Step}
-use Rattle.ck_run.specs.declared.account.Step.TheVariants.{Load, Exchange}
-use Rattle.ck_run.specs.declared.account.Entry.{Entry}
-use Rattle.ck_run.specs.Run.{Run, entry, further, call, account}
-use Rattle.ck_run.specs.Rule.{IsRun}
+use Rattle.ck_run.specs.declared.account.Step.TheVariants.{Load}
+use Rattle.ck_run.specs.Run.{entry, further}
 use Rattle.ck_run.specs.Tokens.{Table, table, did, origin, number, adding, MayMake}
 use Rattle.ck_run.proofs.Moments.{table_stays, number_stays, adds_one}
 use Rattle.ck_epoch.specs.declared.about.About.{About}
-use Rattle.ck_epoch.specs.State.{base, active_word, epoch_word, synchronize, barrier, poll, Task, polling, first_round, second_round, Stage, free, scanning, comparing, between, TokenState, first_busy, is_clear, dispatch_all, after_record, after_blocked, after_raise, after_step, next, MayStep, May, Origin, Token, records_of, base_of, state}
+use Rattle.ck_epoch.specs.State.{active_word, epoch_word, Task, polling, first_round, second_round, Stage, free, scanning, comparing, TokenState, first_busy, is_clear, dispatch_all, after_record, after_blocked, after_step, next, MayStep, May, Origin, Token, records_of, state}
 use Rattle.ck_epoch.specs.Client.{Client, Passes, program}
 use Rattle.ck_epoch.specs.Ends.{IsInRun}
 use Rattle.ck_epoch.specs.Calls.{Looked, look_steps}
-use Rattle.ck_epoch.specs.Rounds.{wait_steps, IsPast, IsWait, waits_steps, IsRound, IsWaiting, name_of, after_rounds, Rounds, HaveEnded, IsScanning, ScansOn, IsFree}
+use Rattle.ck_epoch.specs.Rounds.{wait_steps, IsPast, IsWait, IsWaiting, IsScanning, ScansOn}
 use Rattle.ck_epoch.proofs.Stepping.{Steps, may_epochs, state_after_step}
 
 never_clear : (task : Task) → IsWaiting task → (b : Bool) (busy : Option ℕ) → (b && is_clear task busy) ≡ false

@@ -1,8 +1,7 @@
 -- What a step of the writer keeps of the writer.
-use Rattle.std.proofs.Common.{◌≡◌, ◌≢◌, ℕ, zero, suc, ◌+◌, ◌-◌, ◌*◌, ◌%◌, ◌^◌, ◌<◌, ◌≤◌, Bool, true, false, not, cond, Option, Some, None, List, [], ◌∷◌, ◌++◌, length, get_or, All, filter, length-append, refl, sym, ap, ◌∙◌, subst, arith}
+use Rattle.std.proofs.Common.{◌≡◌, ℕ, ◌+◌, ◌-◌, ◌%◌, ◌^◌, ◌<◌, ◌≤◌, Bool, true, false, not, cond, Option, Some, None, List, [], ◌∷◌, ◌++◌, length, get_or, All, length-append, refl, sym, ap, ◌∙◌, subst, arith}
 use Rattle.std.proofs.lemmas.List.Elements.{All-filter, All-append, All-push, All-nil, All-weaker}
 use mathlib.Core.Option.{some}
-use lib.ListN.{get_elem?}
 use Rattle.atomic_table.proofs.Lists.{at_longer, at_last}
 use Rattle.ck_run.specs.declared.account.Step.TheVariants.{Load}
 use Rattle.ck_run.specs.declared.account.Entry.{Entry}
@@ -10,7 +9,7 @@ use Rattle.ck_run.specs.Run.{handing}
 use Rattle.ck_epoch.specs.Lists.{is_on}
 use Rattle.ck_epoch.specs.State.{Task, polling, first_round, second_round, Stage, free, scanning, comparing, between, Retirement, retirement, TokenState, list_by_list, dispatch, dispatch_all}
 use Rattle.ck_epoch.specs.Epochs.{IsRetired}
-use Rattle.ck_epoch.specs.Held.{IsOfWriter, halfway, due, risen, IsBegun, IsScan, IsWriter}
+use Rattle.ck_epoch.specs.Held.{halfway, due, risen, IsBegun, IsScan, IsWriter}
 use Rattle.ck_epoch.proofs.Places.{inside}
 use Rattle.ck_epoch.proofs.Records.{AreMade}
 use Rattle.ck_epoch.proofs.RecordsKept.{at_stage, All-four, none_some, some_same}

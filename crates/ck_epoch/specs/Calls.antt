@@ -8,7 +8,7 @@ use Rattle.ck_run.specs.Tokens.{did, origin, number, adding}
 use Rattle.ck_epoch.specs.declared.item.Retired.{Retired}
 use Rattle.ck_epoch.specs.declared.answers.Poll.{Poll}
 use Rattle.ck_epoch.specs.declared.answers.Poll.TheVariants.{Clear, Moved, Blocked}
-use Rattle.ck_epoch.specs.State.{Token, active_word, epoch_word, begin, end, poll, depth, base_of}
+use Rattle.ck_epoch.specs.State.{Token, active_word, epoch_word, begin, poll, depth, base_of}
 use Rattle.ck_epoch.specs.Lists.{on, off, by_list}
 use Rattle.ck_epoch.specs.Client.{Client}
 

@@ -1,5 +1,5 @@
 -- The tokens that a domain begins with, and what is known when it is closed.
-use Rattle.std.specs.Prelude.{◌≡◌, ℕ, ◌+◌, ◌<◌, List, [], ◌∷◌, length, drop, slice_index, All}
+use Rattle.std.specs.Prelude.{◌≡◌, ℕ, ◌+◌, List, [], ◌∷◌, drop, All}
 use Rattle.ck_run.specs.declared.account.View.{View}
 use Rattle.ck_run.specs.Run.{Run, replay, account}
 use Rattle.ck_run.specs.Rule.{unused, unused_from, joined, IsRun}

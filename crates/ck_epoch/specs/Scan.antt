@@ -1,11 +1,11 @@
 -- Where the writer stands while a poll goes through the records.
-use Rattle.std.specs.Prelude.{◌≡◌, ℕ, ◌+◌, ◌-◌, ◌%◌, ◌<◌, ◌==◌, ◌&&◌, Bool, cond, Option, Some, None, List, [], ◌∷◌, ◌++◌, length}
+use Rattle.std.specs.Prelude.{◌≡◌, ℕ, ◌+◌, ◌-◌, ◌%◌, ◌==◌, ◌&&◌, Bool, cond, Option, Some, None, List, [], ◌∷◌, ◌++◌, length}
 use Rattle.ck_run.specs.declared.account.Step.TheVariants.{Load}
 use Rattle.ck_run.specs.Run.{call}
 use Rattle.ck_run.specs.Tokens.{adding, number, origin}
 use Rattle.ck_epoch.specs.declared.answers.Scan.{Scan}
 use Rattle.ck_epoch.specs.declared.answers.Scan.TheVariants.{Clear, Current, Behind}
-use Rattle.ck_epoch.specs.State.{Token, TokenState, Stage, Task, polling, scanning, free, Retirement, on_list, off_list, list_by_list, is_clear, poll, records_of, state}
+use Rattle.ck_epoch.specs.State.{Token, TokenState, Stage, polling, scanning, free, Retirement, on_list, off_list, list_by_list, is_clear, poll, records_of, state}
 use Rattle.ck_epoch.specs.Client.{Client}
 use Rattle.ck_epoch.specs.Ends.{IsInRun}
 use Rattle.ck_epoch.specs.Calls.{Looked, scan_steps, AreInactive, FirstActive, FindsNone, Moves, IsBlocked}

@@ -7,7 +7,6 @@ use Rattle.ck_run.specs.declared.account.Origin.{Origin as OriginOf}
 use Rattle.ck_run.specs.Machine.{Machine, state_in, state_of}
 use Rattle.ck_run.specs.Tokens.{Seat}
 use Rattle.ck_epoch.specs.declared.about.About.{About}
-use Rattle.ck_epoch.specs.declared.item.Item.{Item}
 use Rattle.ck_epoch.specs.declared.item.Retired.{Retired}
 use Rattle.ck_epoch.specs.Lists.{is_on}
 

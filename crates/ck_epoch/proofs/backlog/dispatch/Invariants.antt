@@ -1,4 +1,4 @@
-use Rattle.std.proofs.Common.{◌≡◌, ◌+◌, ◌≤◌, ◌++◌, length, take, drop}
+use Rattle.std.proofs.Common.{◌≡◌, ◌+◌, ◌++◌, length, take, drop}
 use Rattle.std.specs.VecDeque.{deque_len, deque_capacity}
 use Rattle.ck_epoch.specs.Lists.{on, off, homes}
 use Rattle.ck_epoch.proofs.backlog.dispatch.Given as goal

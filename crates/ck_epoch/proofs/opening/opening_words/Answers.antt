@@ -1,5 +1,4 @@
-use Rattle.std.proofs.Common.{◌≡◌, ℕ, ◌+◌, List, replicate, sym, ap, ◌∙◌, subst, arith}
-use Rattle.ck_epoch.specs.State.{base}
+use Rattle.std.proofs.Common.{ℕ, ◌+◌, replicate, ap, ◌∙◌, subst, arith}
 use Rattle.ck_epoch.proofs.FirstWords.{AreFirst, begin, epoch_more, client_more, are_opening}
 use Rattle.ck_epoch.proofs.opening.opening_words.Goals as goal
 

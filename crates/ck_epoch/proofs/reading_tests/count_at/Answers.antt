@@ -1,4 +1,4 @@
-use Rattle.std.proofs.Common.{◌≡◌, ℕ, ◌+◌, sym, ap, arith}
+use Rattle.std.proofs.Common.{◌≡◌, ◌+◌, ap, arith}
 use Rattle.ck_run.specs.Tokens.{Table, origin, did}
 use Rattle.ck_run.proofs.Moments.{part_follows}
 use Rattle.ck_epoch.specs.State.{base_of}

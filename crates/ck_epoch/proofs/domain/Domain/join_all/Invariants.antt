@@ -1,4 +1,4 @@
-use Rattle.std.proofs.Common.{◌≡◌, All}
+use Rattle.std.proofs.Common.{◌≡◌}
 use Rattle.ck_run.specs.Tokens.{table}
 use Rattle.ck_epoch.specs.Closing.{joined_all}
 use Rattle.ck_epoch.proofs.domain.Domain.join_all.Given as goal

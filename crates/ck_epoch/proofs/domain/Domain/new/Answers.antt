@@ -1,4 +1,4 @@
-use Rattle.std.proofs.Common.{◌≡◌, sym, ap, subst}
+use Rattle.std.proofs.Common.{sym, ap, subst}
 use Rattle.ck_epoch.specs.State.{Origin}
 use Rattle.ck_epoch.specs.Lists.{Backlog}
 use Rattle.ck_epoch.specs.Closing.{AreOpening}

@@ -2,7 +2,7 @@ use Rattle.std.proofs.Common.{◌+◌, ◌≡◌, ◌<◌, length, sym, ap, ◌�
 use Rattle.ck_run.specs.Tokens.{table}
 use Rattle.ck_epoch.specs.Ends.{Pass}
 use Rattle.ck_epoch.specs.Closing.{fresh, AreFresh}
-use Rattle.ck_epoch.proofs.Parting.{fresh_pass, parted, fresh_snoc, new_pass}
+use Rattle.ck_epoch.proofs.Parting.{parted, fresh_snoc, new_pass}
 use Rattle.ck_epoch.proofs.domain.Domain.part_all.Goals as goal
 
 pub part-other-requires-clause-table : goal.part-other-requires-clause-table

@@ -1,4 +1,4 @@
-use Rattle.std.proofs.Common.{◌≡◌, ℕ, ◌+◌, ◌-◌, ◌%◌, List, ◌++◌, length, ◌∙◌, sym, ap, subst}
+use Rattle.std.proofs.Common.{ℕ, ◌-◌, ◌%◌, List, ◌++◌, length, ◌∙◌, sym, ap}
 use Rattle.ck_run.specs.Tokens.{table, origin}
 use Rattle.ck_epoch.specs.declared.item.Retired.{Retired}
 use Rattle.ck_epoch.specs.State.{Token, Retirement, queue, off_list, state}

@@ -1,11 +1,10 @@
-use Rattle.std.proofs.Common.{◌≡◌, ℕ, ◌+◌, ◌<◌, List, ◌∷◌, map, sym, ap, ◌∙◌, subst}
+use Rattle.std.proofs.Common.{◌≡◌, ℕ, List, ◌∷◌, map, sym, ◌∙◌, subst}
 use Rattle.ck_run.specs.declared.account.Step.{Step}
 use Rattle.ck_run.specs.declared.account.Step.TheVariants.{Load}
 use Rattle.ck_run.specs.Run.{further}
-use Rattle.ck_run.specs.Tokens.{origin, adding}
-use Rattle.ck_epoch.specs.State.{records_of}
+use Rattle.ck_run.specs.Tokens.{adding}
 use Rattle.ck_epoch.specs.Rounds.{IsRound}
-use Rattle.ck_epoch.proofs.TwoRounds.{HasWaited, not_waited, waits_more, small, may_raise, round_table, round_steps, round_state, records_here, all_records, some_record}
+use Rattle.ck_epoch.proofs.TwoRounds.{HasWaited, not_waited, waits_more, small, may_raise, round_steps, round_state, records_here, all_records, some_record}
 use Rattle.ck_epoch.proofs.domain.Domain.round.Goals as goal
 
 pub loop-rec-init : goal.loop-rec-init

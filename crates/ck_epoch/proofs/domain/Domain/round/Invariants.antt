@@ -1,4 +1,3 @@
-use Rattle.std.proofs.Common.{◌≤◌}
 use Rattle.ck_epoch.proofs.TwoRounds.{HasWaited}
 use Rattle.ck_epoch.proofs.domain.Domain.round.Given as goal
 

@@ -1,4 +1,4 @@
-use Rattle.std.proofs.Common.{◌≡◌, ◌+◌, ◌<◌, ◌^◌, false, refl, sym, ap, ◌∙◌, subst, arith}
+use Rattle.std.proofs.Common.{◌+◌, ◌<◌, ◌^◌, false, refl, sym, ap, ◌∙◌, subst}
 use Rattle.ck_run.specs.Tokens.{table, origin, number}
 use Rattle.ck_epoch.specs.State.{Token, TokenState, records_of, synchronize, state}
 use Rattle.ck_epoch.specs.Rounds.{Rounds, HaveEnded}

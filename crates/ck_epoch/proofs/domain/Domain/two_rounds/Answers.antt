@@ -1,4 +1,3 @@
-use Rattle.ck_epoch.specs.State.{state}
 use Rattle.ck_epoch.proofs.TwoRounds.{may_begin, first_scan, may_go_on, second_scan, both_state, both_rounds}
 use Rattle.ck_epoch.proofs.domain.Domain.two_rounds.Goals as goal
 

@@ -1,6 +1,4 @@
-use Rattle.std.proofs.Common.{◌≡◌, ◌<◌, sym, ap, ◌∙◌, subst}
-use Rattle.ck_run.specs.Tokens.{table, origin}
-use Rattle.ck_epoch.specs.State.{records_of}
+use Rattle.std.proofs.Common.{sym, ◌∙◌}
 use Rattle.ck_epoch.proofs.Waits.{in_range, not_looked, may_look, passed_inactive, may_compare, passed_current, still_looked}
 use Rattle.ck_epoch.proofs.domain.Domain.wait_for.Goals as goal
 
