@@ -3,7 +3,7 @@ ghost use Rattle.std.specs.Prelude.{◌≡◌, ℕ, ◌<◌, ◌≤◌, ◌^◌}
 ghost use Rattle.ck_epoch.specs.Client.{Client as Meaning, Starts, Passes, LogGrows, AnsweredRises};
 ghost use Rattle.ck_epoch.specs.Within.{IsWithin};
 
-/// A structure over the words of a domain.
+/// A structure over the words of a domain. In accounts the calls of a domain have the names 1 to 10, so its own have others.
 pub trait Client {
     // Its words, the accounts that its calls make, what it may retire, and what its accounts tell.
     ghost meaning: { Meaning Self };

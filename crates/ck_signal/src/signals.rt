@@ -5,7 +5,7 @@ ghost use Rattle.ck_signal.specs.Words.{applied_word as applied, answered_word a
 use ck_epoch::{Client, STRIDE, Within};
 
 /// The client, and behind its words the word `applied`, in which the writer stores the length of its log, and a word `answered` for each
-/// record, in which its reader stores how many answers it has given.
+/// record, in which its reader stores how many answers it has given. In accounts its calls have the names 11 to 14.
 #[derive(Drop)]
 pub struct Signals<C> {
     pub client: C,
