@@ -15,7 +15,7 @@ use Rattle.ck_run.specs.Machine.{follows_of}
 use Rattle.ck_ring.specs.State.{Origin, Token, TokenState, start, ring, state, state_at, size_of}
 use Rattle.ck_ring.specs.Ring.{Took, Ascends, Rises, IsRingOf}
 use Rattle.ck_ring.specs.Ends.{joined_all, IsRingOrder, RingOrder, IsClosedRing, AreAll, AreNumbered, IsServed}
-use Rattle.ck_ring.proofs.Moments.{ring_after}
+use Rattle.ck_ring.proofs.Moments.{ring_after, ring_before}
 
 pub joined_snoc : (v : View (Unit {0})) (cs : List Token) (c : Token) → joined_all v (cs ++ c ∷ []) ≡ joined (joined_all v cs) c.view
 joined_snoc v [] c = refl
@@ -82,16 +82,29 @@ in_ring_order : (size : ℕ) (words : List ℕ) (at : ℕ → TokenState) → Is
 in_ring_order size words at r = record {
   tail = r.tail;
   head = r.head;
+  room = let p = r.producer in let a = p.room in let b = p.seen in let c = r.tail in omega arith;
+  bounded = let p = r.producer in let a = p.counted in let b = p.bounded in let c = r.tail in omega arith;
+  seen = λ n. seen_by n;
   left = r.items;
+  placed = r.producer.placed;
+  aims = λ n b. (r.consumer n b).at;
   taken = r.taken;
   once = r.once;
   values = λ n k i x b e. let q = r.consumer n b in let v = q.took k (i, x) e in let s = q.seen in let l = v.0 in (omega arith, v.1);
   ascends = λ n b. (r.consumer n b).ascends;
-  rises = λ n b. (r.consumer n b).rises;
+  rises = λ n. rises_in n;
 }
+  where
+    seen_by : (n k x : ℕ) → get_elem? (at n).heads k ≡ some x → x ≤ get_or words 0 0
+    seen_by zero k x e = let p = r.producer in let h = p.heads k x e in let s = p.seen in omega arith
+    seen_by (suc n) k x e = let q = r.consumer (suc n) (omega arith) in let h = q.heads k x e in let s = q.seen in omega arith
+
+    rises_in : (n : ℕ) → Rises (at n).heads
+    rises_in zero = r.producer.rises
+    rises_in (suc n) = (r.consumer (suc n) (omega arith)).rises
 
 pub ring_order : RingOrder
-ring_order origin run r = in_ring_order (size_of origin) (replay origin.words run) (λ n. state_at origin n (account n run)) (ring_after origin run r)
+ring_order origin past rest r = in_ring_order (size_of origin) (replay origin.words past) (λ n. state_at origin n (account n past)) (ring_before origin past rest r)
 
 none_took : (n i : ℕ) → Took (start n) i → ⊥
 none_took zero i t = some-ne-none (i, t.1) (sym t.2)
@@ -102,7 +115,8 @@ pub served : (p : Token) (cs : List Token) (words : List ℕ) → number p ≡ 0
 served p cs words first positive closed all =
     let o = origin p in
     let at : ℕ → TokenState = λ n. state_at o n (account n closed.run) in
-    let r : IsRingOrder (size_of o) words (at 0).sent at = subst (λ (ws : List ℕ). IsRingOrder (size_of o) ws (at 0).sent at) closed.leaves (ring_order o closed.run closed.is_run) in
+    let r : IsRingOrder (size_of o) words (at 0).sent at = subst (λ (ws : List ℕ). IsRingOrder (size_of o) ws (at 0).sent at) closed.leaves
+    (in_ring_order (size_of o) (replay o.words closed.run) at (ring_after o closed.run closed.is_run)) in
     let same_p : at 0 ≡ state p = ap at (sym first) ∙ ap (state_at o (number p)) closed.producer in
     let same : (k : ℕ) (c : Token) → get_elem? cs k ≡ some c → at (number c) ≡ state c = λ k c e.
     let h = all_at (λ (d : Token). (origin d ≡ o) × (account (number d) closed.run ≡ did d)) cs k c closed.consumers e in
@@ -122,5 +136,5 @@ served p cs words first positive closed all =
           let v = r.values (number c) j i x (pos k c ec) (subst (λ (h : TokenState). get_elem? h.took j ≡ some (i, x)) (sym (same k c ec)) e) in
           (v.0, subst (λ (h : TokenState). get_elem? h.sent i ≡ some x) same_p v.1);
       ascends = λ k c ec. subst (λ (h : TokenState). Ascends h.took) (same k c ec) (r.ascends (number c) (pos k c ec));
-      rises = λ k c ec. subst (λ (h : TokenState). Rises h.heads) (same k c ec) (r.rises (number c) (pos k c ec));
+      rises = λ k c ec. subst (λ (h : TokenState). Rises h.heads) (same k c ec) (r.rises (number c));
     }
