@@ -2,3 +2,4 @@ mod Made
 pub mod Order
 mod Place
 pub mod Step
+pub mod Placing

@@ -50,6 +50,10 @@ module _ {K : Type 0} (cmp : K → K → Ordering) where
     abbrev pub after : List (Update K) → ℕ → Map K
     after us p = after_from [] (take p us)
 
+    -- what a look-up of the key finds after the first p updates
+    abbrev pub answer_after : List (Update K) → ℕ → K → Option ℕ
+    answer_after us p k = find (after us p) k
+
     -- the replies of the updates, from the empty map on
     abbrev pub replies : List (Update K) → List Reply
     replies us = replies_from [] us

@@ -5,8 +5,8 @@ use Rattle.std.specs.List.Sorted.{IsNonDecreasing}
 use Rattle.std.specs.Ordering.{nat_cmp}
 use Rattle.std.proofs.lemmas.List.{take_all, length-replicate, get_or-replicate}
 use Rattle.ck_history.specs.Key.{IsKey}
-use Rattle.ck_history.specs.Map.{Map, find, after, after_from, replies}
-use Rattle.ck_history.specs.Legal.{Query, ArePlaced, AreLegal}
+use Rattle.ck_history.specs.Map.{Map, find, after, answer_after, after_from, replies}
+use Rattle.ck_history.specs.Legal.{Query, ArePlaced, AllLegal}
 use Rattle.ck_history.specs.declared.update.Update.{Update}
 use Rattle.ck_script.specs.declared.line.Numbered.{Numbered}
 use Rattle.ck_script.specs.declared.line.UpLine.{UpLine}
@@ -21,7 +21,7 @@ use Rattle.ck_script.proofs.Ranges.{least_in_range}
 use Rattle.ck_script.proofs.Saying.{Say-taken}
 use Rattle.ck_report.specs.declared.asked.Asked.{Asked}
 use Rattle.ck_report.specs.Text.{report_text}
-use Rattle.ck_lookup.specs.Headline.{capacity, IsReport, asked, all_asked, AllLegal}
+use Rattle.ck_lookup.specs.Headline.{capacity, IsReport, asked, all_asked}
 use Rattle.ck_lookup.specs.Running.{answers_of, answers_of_files, text_of}
 
 -- what holds of each line holds of what it says
@@ -44,14 +44,13 @@ module _ (us : List (Update ℕ)) where
       let below : j < n = omega (arith, length-replicate n x) in
       rw (get_or-replicate n i x d (omega arith), get_or-replicate n j x d below) (omega arith)
 
-  placed_last : (hs : List HoldLine) (f i : ℕ) (qs : List (ℕ × ℕ)) → hs ≡ [] → AllByRecursion (λ q. q.1 ≤ length us) qs → ArePlaced nat_cmp capacity us (bounded (length us) hs f i qs) (map (λ q. find nat_cmp (after_from nat_cmp capacity [] us) q.0) qs) (replicate (length qs) (length us))
+  placed_last : (hs : List HoldLine) (f i : ℕ) (qs : List (ℕ × ℕ)) → hs ≡ [] → AllByRecursion (λ q. q.1 ≤ length us) qs → ArePlaced (length us) (answer_after nat_cmp capacity us) (bounded (length us) hs f i qs) (map (λ q. find nat_cmp (after_from nat_cmp capacity [] us) q.0) qs) (replicate (length qs) (length us))
   placed_last hs f i [] none low = tt
   placed_last hs f i (q ∷ qs) none low = (
     record {
       from = low.0;
       to = rw none (omega arith);
-      within = omega arith;
-      found = ap (λ m. find nat_cmp m q.0) (sym after_all);
+      given = record { within = omega arith; right = ap (λ m. find nat_cmp m q.0) (sym after_all) };
     },
     placed_last hs f (i + 1) qs none low.1,
   )
@@ -65,7 +64,7 @@ abbrev found_in : Map ℕ → List (AskLine ℕ) → List (Option ℕ)
 found_in m asks = map (λ q. find nat_cmp m q.0) (queries 0 asks)
 
 -- are legal, where no query waits for more updates than there are
-legal_files : (us : List (Update ℕ)) (hs : List HoldLine) (f : ℕ) (asks : List (List (Numbered (AskLine ℕ)))) → hs ≡ [] → AllByRecursion (λ file. AllByRecursion (λ q. q.1 ≤ length us) (queries 0 (said_of file))) asks → AllLegal us (bounded_files (length us) hs f (map said_of asks)) (map (found_in (after_from nat_cmp capacity [] us)) (map said_of asks))
+legal_files : (us : List (Update ℕ)) (hs : List HoldLine) (f : ℕ) (asks : List (List (Numbered (AskLine ℕ)))) → hs ≡ [] → AllByRecursion (λ file. AllByRecursion (λ q. q.1 ≤ length us) (queries 0 (said_of file))) asks → AllLegal (length us) (answer_after nat_cmp capacity us) (bounded_files (length us) hs f (map said_of asks)) (map (found_in (after_from nat_cmp capacity [] us)) (map said_of asks))
 legal_files us hs f [] none low = tt
 legal_files us hs f (a ∷ asks) none low = (
   record {

@@ -2,9 +2,8 @@
 use Rattle.std.specs.Prelude.{◌≡◌, ℕ, List, [], ◌∷◌, length, Option, decimal}
 use Rattle.std.specs.Ordering.{nat_cmp}
 use Rattle.ck_history.specs.Key.{IsKey}
-use Rattle.ck_history.specs.Map.{after, replies}
-use Rattle.ck_history.specs.Legal.{Query, AreLegal}
-use Rattle.ck_history.specs.declared.update.Update.{Update}
+use Rattle.ck_history.specs.Map.{after, answer_after, replies}
+use Rattle.ck_history.specs.Legal.{Query, AllLegal}
 use Rattle.ck_script.specs.Script.{Script, Means}
 use Rattle.ck_report.specs.declared.asked.Asked.{Asked}
 use Rattle.ck_report.specs.Text.{report_text}
@@ -12,12 +11,6 @@ use Rattle.ck_report.specs.Text.{report_text}
 -- how many pairs a table may have
 abbrev pub capacity : ℕ
 capacity = 65536
-
--- the answers of each query file are legal
-abbrev pub AllLegal : List (Update ℕ) → List (List (Query ℕ)) → List (List (Option ℕ)) → Type 0
-AllLegal us [] [] = Unit {0}
-AllLegal us (queries ∷ files) (answers ∷ more) = AreLegal nat_cmp capacity us queries answers × AllLegal us files more
-AllLegal us _ _ = ⊥
 
 -- each query's key with its answer
 abbrev pub asked : List (Query ℕ) → List (Option ℕ) → List (Asked ℕ)
@@ -35,7 +28,7 @@ pub record IsReport (update_file : List ℕ) (query_files : List (List ℕ)) (te
   pub script : Script ℕ
   pub meant : Means IsKey decimal update_file query_files script
   pub answers : List (List (Option ℕ))
-  pub legal : AllLegal script.updates script.files answers
+  pub legal : AllLegal (length script.updates) (answer_after nat_cmp capacity script.updates) script.files answers
   pub printed : text ≡ report_text decimal
       (replies nat_cmp capacity script.updates)
       (all_asked script.files answers)
