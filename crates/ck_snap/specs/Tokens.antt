@@ -10,10 +10,9 @@ use Rattle.ck_history.specs.declared.log.Placed.{Placed}
 use Rattle.ck_history.specs.declared.update.Update.{Update}
 use Rattle.ck_history.specs.declared.update.Reply.{Reply}
 use Rattle.ck_history.specs.Map.{find, step}
-use Rattle.ck_snap.specs.declared.journal.Event.{Event}
-use Rattle.ck_snap.specs.declared.journal.Event.TheVariants.{Updated}
+use Rattle.ck_history.specs.declared.event.WriterEvent.TheVariants.{Updated}
 use Rattle.ck_snap.specs.Log.{Log, capacity, map_after, AreReplies}
-use Rattle.ck_snap.specs.Places.{updates_of, answers_of, ArePlaced}
+use Rattle.ck_snap.specs.Places.{Writing, Reading, log_in, answers_at, ArePlacedIn}
 
 -- which dictionary something belongs to: that of this log and these journals
 pub record Origin : Type 0 where
@@ -28,27 +27,28 @@ pub record Dictionary : Type 0 where
 -- the writer: its dictionary, what was done with it, the updates that readers see from now on, and the number of its counted calls
 pub record WriterView : Type 0 where
   pub origin : Origin
-  pub done : List Event
+  pub done : Writing
   pub published : Log
   pub calls : ℕ
 
--- a pass: its dictionary and its number there, the part of the log that it has seen, what was done with it,
+-- a pass: its dictionary and its number there, the part of the log that it has seen, what was done with it with the places of its answers,
 -- and the numbers of its ruled enters and of its counted calls
 pub record PassView : Type 0 where
   pub origin : Origin
   pub number : ℕ
   pub seen : Log
-  pub done : List Event
+  pub done : Reading
+  pub places : List ℕ
   pub enters : ℕ
   pub calls : ℕ
 
 -- the writer's answered updates
 abbrev pub log : WriterView → Log
-log w = updates_of w.done
+log w = log_in w.done
 
 -- the pass's answered look-ups
 abbrev pub mine : PassView → List (Placed ℕ)
-mine p = answers_of p.done
+mine p = answers_at p.done p.places
 
 -- both were made with one dictionary
 abbrev pub IsWriterOf : Dictionary → WriterView → Type 0
@@ -67,7 +67,7 @@ pub record IsCurrent (w : WriterView) : Type 0 where
 pub record HasUpdated (old : WriterView) (u : Update ℕ) (new : WriterView) (r : Reply) : Type 0 where
   pub reply : r ≡ (step nat_cmp capacity (map_after (log old)) u).1
   pub appended : log new ≡ log old ++ record { update = u; reply = r } ∷ []
-  pub writer : new ≡ record old { done = old.done ++ Updated (record { update = u; reply = r }) ∷ []; published = log new; calls = old.calls + 1 }
+  pub writer : new ≡ record old { done = old.done ++ Updated u r ∷ []; published = log new; calls = old.calls + 1 }
   pub current : IsCurrent new
 
 -- an answer as `look` gives it
@@ -85,7 +85,7 @@ fresh_writer d = record { origin = d.origin; done = []; published = []; calls = 
 
 -- a pass with which nothing was done, and that has seen nothing
 abbrev pub fresh_pass : Dictionary → ℕ → PassView
-fresh_pass d n = record { origin = d.origin; number = n; seen = []; done = []; enters = 0; calls = 0 }
+fresh_pass d n = record { origin = d.origin; number = n; seen = []; done = []; places = []; enters = 0; calls = 0 }
 
 -- such passes, numbered from n in order
 abbrev pub AreFresh : Dictionary → ℕ → List PassView → Type 0
@@ -99,4 +99,4 @@ pub record IsTied (w : WriterView) (p : PassView) (w' : WriterView) (p' : PassVi
   pub current : IsCurrent w'
   pub pass : p' ≡ record p { seen = log w; enters = p'.enters; calls = p.calls + 1 }
   pub enters : p.enters < p'.enters
-  pub placed : ArePlaced (log w) 0 p.done
+  pub placed : ArePlacedIn (log w) p.done p.places

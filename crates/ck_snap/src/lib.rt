@@ -17,5 +17,4 @@ mod tying;
 mod version;
 mod writing;
 
-pub use journal::Event;
 pub use tokens::{Snap, SnapPass, SnapWriter};

@@ -1,7 +1,7 @@
 //! How a dictionary begins.
 ghost use Rattle.std.specs.Prelude.{◌≡◌, ◌+◌, ◌≤◌, [], IfOk, vec_len};
 ghost use Rattle.ck_snap.specs.Tokens.{fresh_writer, fresh_pass, AreFresh};
-ghost use Rattle.ck_snap.specs.Journal.{JournalView};
+ghost use Rattle.ck_snap.specs.Journal.{JournalView, no_events};
 
 use crate::journal::{Journal, Journals};
 use crate::publisher::Publisher;
@@ -53,7 +53,7 @@ impl Snap {
         journal: &mut Journal,
     ) -> Result<Vec<SnapPass>, AllocError>
         requires publisher { publisher.old ≡ record { book = self.now.origin.log; log = [] } }
-        requires journal { journal.old ≡ record { journals = self.now.origin.journals; done = [] } }
+        requires journal { journal.old ≡ record { journals = self.now.origin.journals; events = no_events } }
         ensures same { (publisher.new ≡ publisher.old) × (journal.new ≡ journal.old) }
         ensures passes { IfOk result (λ v. (vec_len v ≡ self.now.readers) × AreFresh self.now 0 v.items) }
     {
@@ -71,7 +71,7 @@ impl Snap {
         number: u64,
     ) -> Result<SnapPass, AllocError>
         requires publisher { publisher.old ≡ record { book = self.now.origin.log; log = [] } }
-        requires journal { journal.old ≡ record { journals = self.now.origin.journals; done = [] } }
+        requires journal { journal.old ≡ record { journals = self.now.origin.journals; events = no_events } }
         ensures same { (publisher.new ≡ publisher.old) × (journal.new ≡ journal.old) }
         ensures pass { IfOk result (λ p. p ≡ fresh_pass self.now number) }
     {

@@ -1,13 +1,12 @@
 //! The calls of the readers.
 ghost use Rattle.std.specs.Prelude.{◌≡◌, ◌+◌, ◌<◌, ◌≤◌, ◌^◌, ◌++◌, ◌∷◌, [], length, IfErr, OnOk};
 ghost use mathlib.Core.List.{IsPrefix};
-ghost use Rattle.ck_snap.specs.declared.journal.Event.TheVariants.{Answered, Reached};
-ghost use Rattle.ck_snap.specs.Places.{ArePlaced};
+ghost use Rattle.ck_history.specs.declared.event.ReaderEvent.TheVariants.{Answered, Reached};
+ghost use Rattle.ck_snap.specs.Places.{ArePlacedIn};
 ghost use Rattle.ck_snap.specs.Tokens.{IsPassOf, mine, placed, look_of};
 
-use crate::journal::Event;
 use crate::tokens::{Snap, SnapPass};
-use ck_history::{Key, Look, Placed};
+use ck_history::{Key, Look};
 use std::sync::Wait;
 
 impl Snap {
@@ -17,14 +16,14 @@ impl Snap {
         requires calls { pass.old.calls < 2 ^ 40 }
         ensures later { IsPrefix pass.old.seen pass.new.seen }
         ensures answer { result ≡ look_of (placed pass.new key).answer }
-        ensures pass { pass.new ≡ record pass.old { seen = pass.new.seen; done = pass.old.done ++ Answered (placed pass.new key) ∷ []; enters = pass.old.enters + 1; calls = pass.old.calls + 1 } }
+        ensures pass { pass.new ≡ record pass.old { seen = pass.new.seen; done = pass.old.done ++ Answered key (placed pass.new key).answer ∷ []; places = pass.old.places ++ length pass.new.seen ∷ []; enters = pass.old.enters + 1; calls = pass.old.calls + 1 } }
         ensures mine { mine pass.new ≡ mine pass.old ++ placed pass.new key ∷ [] }
-        ensures placed { ArePlaced pass.new.seen 0 pass.new.done }
+        ensures placed { ArePlacedIn pass.new.seen pass.new.done pass.new.places }
     {
         let answer = pass.subscriber.look(rt, key);
         let place = pass.subscriber.version().count();
-        let event = Event::Answered(Placed { key, answer, place });
-        self.journals.append(&mut pass.journal, &event);
+        self.journals
+            .note_answer(&mut pass.journal, key, answer, place);
         pass.calls += 1;
         match answer {
             Some(value) => Look::Found(value),
@@ -40,13 +39,12 @@ impl Snap {
         ensures err { IfErr result (λ count. (count ≡ length pass.new.seen) × (count < n)) }
         ensures pass { pass.new ≡ record pass.old { seen = pass.new.seen; done = pass.old.done ++ Reached n result ∷ []; enters = pass.old.enters + 1 } }
         ensures mine { mine pass.new ≡ mine pass.old }
-        ensures placed { ArePlaced pass.new.seen 0 pass.new.done }
+        ensures placed { ArePlacedIn pass.new.seen pass.new.done pass.new.places }
     {
         pass.subscriber.see(rt);
         let count = pass.subscriber.version().count();
         let result = if n <= count { Ok(()) } else { Err(count) };
-        self.journals
-            .append(&mut pass.journal, &Event::Reached(n, result));
+        self.journals.note_reached(&mut pass.journal, n, result);
         result
     }
 }

@@ -34,7 +34,7 @@ impl Model for SnapWriter {
 
     ghost Value = { WriterView };
 
-    ghost view = { λ w. record { origin = record { log = w.publisher.book; journals = w.journal.journals }; done = w.journal.done; published = w.publisher.log; calls = w.calls } };
+    ghost view = { λ w. record { origin = record { log = w.publisher.book; journals = w.journal.journals }; done = w.journal.events.written; published = w.publisher.log; calls = w.calls } };
 
     ghost invariant = { λ w. IsWriter w };
 }
@@ -54,7 +54,7 @@ impl Model for SnapPass {
 
     ghost Value = { PassView };
 
-    ghost view = { λ p. record { origin = record { log = p.subscriber.book; journals = p.journal.journals }; number = p.number; seen = p.subscriber.log; done = p.journal.done; enters = p.subscriber.enters; calls = p.calls } };
+    ghost view = { λ p. record { origin = record { log = p.subscriber.book; journals = p.journal.journals }; number = p.number; seen = p.subscriber.log; done = p.journal.events.read; places = p.journal.events.places; enters = p.subscriber.enters; calls = p.calls } };
 
     ghost invariant = { λ p. IsPass p };
 }

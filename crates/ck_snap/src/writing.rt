@@ -1,13 +1,12 @@
 //! The calls of the writer.
 ghost use Rattle.std.specs.Prelude.{◌≡◌, ◌<◌, ◌^◌, ◌++◌, ◌∷◌, [], IfOk, OnErr};
 ghost use Rattle.ck_history.specs.declared.update.Update.TheVariants.{Set, Put, Del, Tidy};
-ghost use Rattle.ck_snap.specs.declared.journal.Event.TheVariants.{Told};
+ghost use Rattle.ck_history.specs.declared.event.WriterEvent.TheVariants.{Told};
 ghost use Rattle.ck_snap.specs.Log.{map_after};
 ghost use Rattle.ck_snap.specs.Tokens.{IsWriterOf, IsCurrent, HasUpdated, log};
 
-use crate::journal::Event;
 use crate::tokens::{Snap, SnapWriter};
-use ck_history::{Key, LogEntry, Reply, Update};
+use ck_history::{Key, Reply, Update};
 use std::alloc::{AllocError, Global};
 use std::sync::Wait;
 
@@ -78,8 +77,7 @@ impl Snap {
         ensures err { OnErr result (w.new ≡ w.old) }
     {
         let reply = w.publisher.update(rt, &self.length, &update)?;
-        let event = Event::Updated(LogEntry { update, reply });
-        self.journals.append(&mut w.journal, &event);
+        self.journals.note_update(&mut w.journal, &update, reply);
         w.calls += 1;
         Ok(reply)
     }
@@ -90,8 +88,7 @@ impl Snap {
         ensures zero { result ≡ 0 }
         ensures writer { w.new ≡ record w.old { done = w.old.done ++ Told reader 0 ∷ [] } }
     {
-        self.journals
-            .append(&mut w.journal, &Event::Told(reader, 0));
+        self.journals.note_told(&mut w.journal, reader, 0);
         0
     }
 

@@ -5,18 +5,18 @@ use Rattle.ck_snap.specs.Journal.{JournalView}
 use Rattle.std.specs.Ordering.{nat_cmp}
 use Rattle.ck_history.specs.Map.{step}
 use Rattle.ck_snap.specs.Log.{Log, capacity, map_after, AreReplies}
-use Rattle.ck_snap.specs.Places.{updates_of}
-use Rattle.ck_snap.proofs.Placing.{updates_of-append}
+use Rattle.ck_snap.specs.Places.{log_in}
+use Rattle.ck_snap.proofs.Placing.{log_in-append}
 use Rattle.ck_snap.proofs.Replying.{AreReplies-snoc}
 use Rattle.ck_snap.proofs.tokens.Snap.update.Goals as goal
 
 pub invariant_of-w-2 : goal.invariant_of-w-2
 invariant_of-w-2 g c =
-    let done = c.w.inside.journal.done in
+    let done = c.w.inside.journal.events.written in
     let old = c.w.inside.publisher.log in
     let e : LogEntry ℕ = record { update = c.args.update; reply = c.in_ok-reply.reply } in
     let log : c.update.new.self.log ≡ old ++ e ∷ [] = ap (λ (r : LogPart). r.log) c.in_ok-reply.ensures.ok in
-    let updates : updates_of c.append.new.journal.done ≡ updates_of done ++ e ∷ [] = ap (λ (j : JournalView). updates_of j.done) c.append.ensures ∙ updates_of-append done _ in
+    let updates : log_in c.note_update.new.journal.events.written ≡ log_in done ++ e ∷ [] = ap (λ (j : JournalView). log_in j.events.written) c.note_update.ensures ∙ log_in-append done _ in
     record {
       log = updates ∙ (ap (λ (l : Log). l ++ e ∷ []) c.w.invariant.log ∙ sym log);
       replies = subst AreReplies (sym log) (AreReplies-snoc old e c.w.invariant.replies c.in_ok-reply.ensures.reply);
@@ -25,15 +25,15 @@ invariant_of-w-2 g c =
 
 pub returns-clause-ok : goal.returns-clause-ok
 returns-clause-ok g c =
-    let done = c.w.inside.journal.done in
+    let done = c.w.inside.journal.events.written in
     let kept = invariant_of-w-2 g c in
     let book = ap (λ (r : LogPart). r.book) c.in_ok-reply.ensures.ok in
-    let journals = ap (λ (j : JournalView). j.journals) c.append.ensures in
-    let whole = ap (λ (j : JournalView). j.done) c.append.ensures in
+    let journals = ap (λ (j : JournalView). j.journals) c.note_update.ensures in
+    let whole = ap (λ (j : JournalView). j.events.written) c.note_update.ensures in
     let published = sym kept.log in
     rw (← c.w.view_is) (record {
       reply = c.in_ok-reply.ensures.reply ∙ ap (λ (l : Log). (step nat_cmp capacity (map_after l) c.args.update).1) (sym c.w.invariant.log);
-      appended = ap updates_of whole ∙ updates_of-append done _;
+      appended = ap log_in whole ∙ log_in-append done _;
       writer = cc (book, journals, whole, published);
       current = record { published = published; replies = subst AreReplies published kept.replies };
     })

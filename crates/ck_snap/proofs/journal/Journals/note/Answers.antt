@@ -1,7 +1,7 @@
 use Rattle.std.proofs.Common.{refl, ap, sym, ◌∙◌, arith}
 use Rattle.atomic_table.specs.Table.{keeps}
 use Rattle.ck_snap.specs.Journal.{JournalView}
-use Rattle.ck_snap.proofs.journal.Journals.append_as.Goals as goal
+use Rattle.ck_snap.proofs.journal.Journals.note.Goals as goal
 
 pub load-requires : goal.load-requires
 load-requires g c =
