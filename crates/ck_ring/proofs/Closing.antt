@@ -1,84 +1,45 @@
 -- What is known when a ring is closed.
-use Rattle.std.proofs.Common.{◌≡◌, ℕ, zero, suc, ◌+◌, ◌-◌, ◌<◌, ◌≤◌, List, [], ◌∷◌, ◌++◌, length, get_or, sym, refl, ap, ◌∙◌, subst, lt_of_not-le, All, arith}
-use Rattle.std.proofs.lemmas.List.Elements.{All-nil, All-cons, All-head, All-tail, All-append}
-use mathlib.Core.Option.{some, some-injective, some-ne-none}
+use Rattle.std.proofs.Common.{◌≡◌, ℕ, zero, suc, ◌+◌, ◌-◌, ◌<◌, ◌≤◌, List, length, get_or, sym, ap, ◌∙◌, subst, lt_of_not-le, All, arith}
+use mathlib.Core.Option.{some, some-ne-none}
 use mathlib.Core.Logic.{dite}
 use native.Mathlib.Decide.{dec_le}
 use lib.ListN.{get_elem?}
 use Rattle.ck_run.specs.declared.account.Entry.{Entry}
-use Rattle.ck_run.specs.declared.account.Account.{Account}
 use Rattle.ck_run.specs.declared.account.View.{View}
-use Rattle.ck_run.specs.Run.{Run, replay, account}
-use Rattle.ck_run.specs.Rule.{joined, AreParts, IsRun, IsClosed}
+use Rattle.ck_run.specs.Run.{replay, account}
+use Rattle.ck_run.specs.Rule.{IsClosed}
 use Rattle.ck_run.specs.Tokens.{Table, table, did, number, origin}
 use Rattle.ck_run.specs.Machine.{follows_of}
+use Rattle.ck_run.specs.Ends.{AreTied, joined_all}
+use Rattle.ck_run.proofs.Lists.{all_at, All-weaker, All-both}
+use Rattle.ck_run.proofs.Ends.{each_at, tied_same, are_closed}
 use Rattle.ck_ring.specs.State.{Origin, Token, TokenState, start, ring, state, state_at, size_of}
 use Rattle.ck_ring.specs.Ring.{Took, Ascends, Rises, IsRingOf}
-use Rattle.ck_ring.specs.Ends.{joined_all, IsRingOrder, RingOrder, IsClosedRing, AreAll, AreNumbered, IsServed}
-use Rattle.ck_ring.proofs.Moments.{ring_after, ring_before}
+use Rattle.ck_ring.specs.Order.{IsRingOrder}
+use Rattle.ck_ring.specs.Ends.{IsClosedRing, AreAll, AreNumbered, IsServed}
+use Rattle.ck_ring.proofs.Moments.{ring_after}
 
-pub joined_snoc : (v : View (Unit {0})) (cs : List Token) (c : Token) → joined_all v (cs ++ c ∷ []) ≡ joined (joined_all v cs) c.view
-joined_snoc v [] c = refl
-joined_snoc v (x ∷ cs) c = joined_snoc (joined v x.view) cs c
-
-pub All-snoc : (P : Token → Type 0) (cs : List Token) (c : Token) → All P cs → P c → All P (cs ++ c ∷ [])
-All-snoc P cs c h p = All-append P cs (c ∷ []) h (All-cons P c [] p (All-nil P))
-
-All-map : (P Q : Token → Type 0) (cs : List Token) → ((c : Token) → P c → Q c) → All P cs → All Q cs
-All-map P Q [] f h = All-nil Q
-All-map P Q (c ∷ cs) f h = All-cons Q c cs (f c (All-head P c cs h)) (All-map P Q cs f (All-tail P c cs h))
-
-All-both : (P Q : Token → Type 0) (cs : List Token) → All P cs → All Q cs → All (λ (c : Token). P c × Q c) cs
-All-both P Q [] h g = All-nil (λ (c : Token). P c × Q c)
-All-both P Q (c ∷ cs) h g = All-cons (λ (d : Token). P d × Q d) c cs (All-head P c cs h, All-head Q c cs g) (All-both P Q cs (All-tail P c cs h) (All-tail Q c cs g))
-
-parts_parts : (run : Run) (xs ys : List Account) → AreParts run (xs ++ ys) → AreParts run xs × AreParts run ys
-parts_parts run [] ys h = (tt, h)
-parts_parts run (x ∷ xs) ys h = let r = parts_parts run xs ys h.1 in ((h.0, r.0), r.1)
-
-parts_all : (run : Run) (v : View (Unit {0})) (cs : List Token) → AreParts run ((joined_all v cs).own ∷ (joined_all v cs).kept)
-    → AreParts run (v.own ∷ v.kept) × All (λ (c : Token). account (number c) run ≡ did c) cs
-parts_all run v [] h = (h, All-nil (λ (c : Token). account (number c) run ≡ did c))
-parts_all run v (c ∷ cs) h =
-    let r = parts_all run (joined v c.view) cs h in
-    let p = parts_parts run v.kept (c.view.own ∷ c.view.kept) r.0.1 in
-    ((r.0.0, p.0), All-cons (λ (c : Token). account (number c) run ≡ did c) c cs p.1.0 r.1)
-
-origin_all : (v : View (Unit {0})) (cs : List Token) → (joined_all v cs).origin ≡ v.origin
-origin_all v [] = refl
-origin_all v (c ∷ cs) = origin_all (joined v c.view) cs
-
-pub closed_ring : (p : Token) (cs : List Token) (w : Table (Unit {0})) (v : View (Unit {0})) (words : List ℕ) → v ≡ joined_all p.view cs → table p ≡ w → All (λ (c : Token). table c ≡ w) cs
-    → IsClosed (follows_of ring) v words → IsClosedRing p cs words
-closed_ring p cs w v words e same all closed =
-    let c : IsClosed (follows_of ring) (joined_all p.view cs) words = subst (λ (x : View (Unit {0})). IsClosed (follows_of ring) x words) e closed in
-    let o : (joined_all p.view cs).origin ≡ origin p = origin_all p.view cs in
-    let a = parts_all c.run p.view cs c.parts in
+-- the tokens that were taken in are those of the consumers
+pub closed_ring : (R : Token → Token → Type 0) (p : Token) (cs ts : List Token) (w : Table (Unit {0})) (v : View (Unit {0})) (words : List ℕ) → ((x y : Token) → R x y → y ≡ x) → AreTied R cs ts → v ≡ joined_all p.view ts
+    → table p ≡ w → All (λ (c : Token). table c ≡ w) cs → IsClosed (follows_of ring) v words → IsClosedRing p cs words
+closed_ring R p cs ts w v words same tied e of all closed =
+    let view : v ≡ joined_all p.view cs = e ∙ ap (joined_all p.view) (tied_same R cs ts same tied) in
+    let c = are_closed (follows_of ring) p.view cs words (subst (λ (x : View (Unit {0})). IsClosed (follows_of ring) x words) view closed) in
     record {
       run = c.run;
-      is_run = subst (λ (z : Origin). IsRun (follows_of ring) z c.run) o c.is_run;
-      leaves = ap (λ (z : Origin). replay z.words c.run) (sym o) ∙ c.leaves;
-      producer = a.0.0;
+      is_run = c.is_run;
+      leaves = c.leaves;
+      producer = c.mine.0;
       consumers = All-both (λ (d : Token). origin d ≡ origin p) (λ (d : Token). account (number d) c.run ≡ did d) cs
-          (All-map (λ (d : Token). table d ≡ w) (λ (d : Token). origin d ≡ origin p) cs (λ d h. ap (λ (x : Table (Unit {0})). x.origin) (h ∙ sym same)) all) a.1;
+          (All-weaker (λ (d : Token). table d ≡ w) (λ (d : Token). origin d ≡ origin p) cs (λ d h. ap (λ (x : Table (Unit {0})). x.origin) (h ∙ sym of)) all) c.theirs;
     }
-
-numbered_at : (n : ℕ) (cs : List Token) (k : ℕ) → AreNumbered n cs → k < length cs → (c : Token) × (get_elem? cs k ≡ some c) × (number c ≡ n + k)
-numbered_at n [] k h low = absurd (omega arith)
-numbered_at n (c ∷ cs) zero h low = (c, refl, h.0 ∙ omega arith)
-numbered_at n (c ∷ cs) (suc k) h low = let r = numbered_at (n + 1) cs k h.1 (omega arith) in (r.0, r.1, r.2 ∙ omega arith)
 
 -- consumers in their order are all
 pub all_numbered : (p : Token) (cs : List Token) → AreNumbered 1 cs → (origin p).tokens ≡ length cs + 1 → AreAll p cs
-all_numbered p cs h count n pos low = let r = numbered_at 1 cs (n - 1) h (omega arith) in (n - 1, r.0, r.1, r.2 ∙ omega arith)
-
-all_at : (P : Token → Type 0) (cs : List Token) (k : ℕ) (c : Token) → All P cs → get_elem? cs k ≡ some c → P c
-all_at P [] k c h e = absurd (some-ne-none c (sym e))
-all_at P (x ∷ xs) zero c h e = subst P (some-injective x c e) (All-head P x xs h)
-all_at P (x ∷ xs) (suc k) c h e = all_at P xs k c (All-tail P x xs h) e
+all_numbered p cs h count n pos low = let r = each_at (λ (k : ℕ) (c : Token). number c ≡ k) 1 cs (n - 1) h (omega arith) in (n - 1, r.0, r.1, r.2 ∙ omega arith)
 
 -- ring order, from what holds of a ring
-in_ring_order : (size : ℕ) (words : List ℕ) (at : ℕ → TokenState) → IsRingOf size words at → IsRingOrder size words (at 0).sent at
+pub in_ring_order : (size : ℕ) (words : List ℕ) (at : ℕ → TokenState) → IsRingOf size words at → IsRingOrder size words (at 0).sent at
 in_ring_order size words at r = record {
   tail = r.tail;
   head = r.head;
@@ -102,9 +63,6 @@ in_ring_order size words at r = record {
     rises_in : (n : ℕ) → Rises (at n).heads
     rises_in zero = r.producer.rises
     rises_in (suc n) = (r.consumer (suc n) (omega arith)).rises
-
-pub ring_order : RingOrder
-ring_order origin past rest r = in_ring_order (size_of origin) (replay origin.words past) (λ n. state_at origin n (account n past)) (ring_before origin past rest r)
 
 none_took : (n i : ℕ) → Took (start n) i → ⊥
 none_took zero i t = some-ne-none (i, t.1) (sym t.2)

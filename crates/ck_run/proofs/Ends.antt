@@ -1,12 +1,13 @@
 -- Giving out the tokens of a table, and taking them back.
-use Rattle.std.proofs.Common.{◌≡◌, ℕ, zero, suc, ◌+◌, ◌-◌, ◌<◌, ◌≤◌, List, [], ◌∷◌, ◌++◌, length, All, refl, ap, ◌∙◌, subst, arith}
+use Rattle.std.proofs.Common.{◌≡◌, ℕ, zero, suc, ◌+◌, ◌-◌, ◌<◌, ◌≤◌, List, [], ◌∷◌, ◌++◌, length, All, refl, ap, ◌∙◌, subst, arith, sym}
 use Rattle.std.proofs.lemmas.List.Elements.{All-nil, All-cons}
 use mathlib.Core.Option.{some}
 use lib.ListN.{get_elem?}
 use Rattle.ck_run.specs.declared.account.Account.{Account}
 use Rattle.ck_run.specs.declared.account.View.{View}
-use Rattle.ck_run.specs.Run.{Run, account}
-use Rattle.ck_run.specs.Rule.{unused_from, first_view, left_of, right_of, joined, AreParts}
+use Rattle.ck_run.specs.declared.account.Origin.{Origin}
+use Rattle.ck_run.specs.Run.{Run, replay, account}
+use Rattle.ck_run.specs.Rule.{Follows, unused_from, first_view, left_of, right_of, joined, AreParts, IsRun, IsClosed}
 use Rattle.ck_run.specs.Tokens.{Table, Seat, viewing, did, number}
 use Rattle.ck_run.specs.Ends.{EachFrom, AreTied, keeper, fresh, joined_all}
 
@@ -33,6 +34,12 @@ module _ {A B : Type 0} where
   tied_snoc R [] (b ∷ ys) x y h r = absurd h
   tied_snoc R (a ∷ xs) [] x y h r = absurd h
   tied_snoc R (a ∷ xs) (b ∷ ys) x y h r = (h.0, tied_snoc R xs ys x y h.1 r)
+
+-- what a tie tells of each item of the first list
+pub tied_all : {A B : Type 0} (R : A → B → Type 0) (P : A → Type 0) (xs : List A) (ys : List B) → ((x : A) (y : B) → R x y → P x) → AreTied R xs ys → All P xs
+tied_all R P [] ys tells h = All-nil P
+tied_all R P (x ∷ xs) [] tells h = absurd h
+tied_all R P (x ∷ xs) (y ∷ ys) tells h = All-cons P x xs (tells x y h.0) (tied_all R P xs ys tells h.1)
 
 -- lists whose items are the same
 pub tied_same : {A : Type 0} (R : A → A → Type 0) (xs ys : List A) → ((x y : A) → R x y → y ≡ x) → AreTied R xs ys → ys ≡ xs
@@ -88,3 +95,24 @@ module _ {C : Type 0} where
       let r = parts_all run (joined v t.view) ts h in
       let p = parts_parts run v.kept (t.view.own ∷ t.view.kept) r.0.1 in
       ((r.0.0, p.0), All-cons (IsPartOf run) t ts p.1.0 r.1)
+
+  -- What is known at the end of the accounts of the last token and of each token that it took in: they are the parts of one true run,
+  -- which leaves these words
+  pub record AreClosed (follows : Follows C) (v : View C) (ts : List (Seat C)) (words : List ℕ) : Type 0 where
+    pub run : Run
+    pub is_run : IsRun follows v.origin run
+    pub leaves : replay v.origin.words run ≡ words
+    pub mine : AreParts run (v.own ∷ v.kept)
+    pub theirs : All (IsPartOf run) ts
+
+  pub are_closed : (follows : Follows C) (v : View C) (ts : List (Seat C)) (words : List ℕ) → IsClosed follows (joined_all v ts) words → AreClosed follows v ts words
+  are_closed follows v ts words c =
+      let o : (joined_all v ts).origin ≡ v.origin = origin_all v ts in
+      let parts = parts_all c.run v ts c.parts in
+      record {
+        run = c.run;
+        is_run = subst (λ (z : Origin C). IsRun follows z c.run) o c.is_run;
+        leaves = ap (λ (z : Origin C). replay z.words c.run) (sym o) ∙ c.leaves;
+        mine = parts.0;
+        theirs = parts.1;
+      }
