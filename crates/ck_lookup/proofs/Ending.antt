@@ -106,9 +106,9 @@ ok_always (Ok x) P p = p
 ok_always (Err e) P p = tt
 
 -- a report that has been read under every pair of files that are told
-pub ok_each : {E : Type 0} (r : Result (Vec ℕ Global) E) (Told : List ℕ → List (List ℕ) → Type 0) → ((u : List ℕ) (qs : List (List ℕ)) → Told u qs → IfOk r (λ text. IsReport u qs text.items)) → IfOk r (λ text. (u : List ℕ) (qs : List (List ℕ)) → Told u qs → IsReport u qs text.items)
-ok_each (Ok x) Told report = report
-ok_each (Err e) Told report = tt
+pub ok_each : {T E : Type 0} (r : Result T E) (text : T → List ℕ) (Told : List ℕ → List (List ℕ) → Type 0) → ((u : List ℕ) (qs : List (List ℕ)) → Told u qs → IfOk r (λ x. IsReport u qs (text x))) → IfOk r (λ x. (u : List ℕ) (qs : List (List ℕ)) → Told u qs → IsReport u qs (text x))
+ok_each (Ok x) text Told report = report
+ok_each (Err e) text Told report = tt
 
 -- a refusal that has been read under every pair of files
 pub err_each : {T E : Type 0} {P : List ℕ → List (List ℕ) → Type 0} {Q : List ℕ → List (List ℕ) → E → Type 0} (r : Result T E) (R : E → Type 0) → ((o : E) → ((u : List ℕ) (qs : List (List ℕ)) → P u qs → Q u qs o) → R o) → ((u : List ℕ) (qs : List (List ℕ)) → P u qs → IfErr r (Q u qs)) → IfErr r R

@@ -8,6 +8,7 @@ use Rattle.ck_history.specs.Key.{IsKey}
 use Rattle.ck_history.specs.Map.{Map, find, after, answer_after, after_from, replies}
 use Rattle.ck_history.specs.Legal.{Query, ArePlaced, AllLegal}
 use Rattle.ck_history.specs.declared.update.Update.{Update}
+use Rattle.ck_history.specs.declared.update.Reply.{Reply}
 use Rattle.ck_script.specs.declared.line.Numbered.{Numbered}
 use Rattle.ck_script.specs.declared.line.UpLine.{UpLine}
 use Rattle.ck_script.specs.declared.line.UpLine.TheVariants.{Call, Hold}
@@ -95,3 +96,10 @@ report_of_scripts update_file query_files ups asks text ups_said asks_said in_ra
       legal = legal_files us hs 1 asks none (least_in_range ups asks in_range);
       printed = is ∙ rw (same, after_all us) refl;
     }
+
+-- replies, answers and pairs as the parts of a run make them
+pub text_is : (ups : List (UpLine (Update ℕ))) (files : List (List (AskLine ℕ))) (rs : List Reply) (found : List (List (Asked ℕ))) (ps : Map ℕ) → rs ≡ replies nat_cmp capacity (updates ups) → ps ≡ after_from nat_cmp capacity [] (updates ups) → found ≡ answers_of_files ps files → report_text decimal rs found ps ≡ text_of ups files
+text_is ups files rs found ps r p a =
+    ap (λ x. report_text decimal x found ps) r
+    ∙ (ap (λ x. report_text decimal (replies nat_cmp capacity (updates ups)) x ps) a
+    ∙ ap (λ m. report_text decimal (replies nat_cmp capacity (updates ups)) (answers_of_files m files) m) p)

@@ -1,8 +1,8 @@
 ghost use Rattle.std.specs.Prelude.{◌≡◌, ◌+◌, ◌≤◌, ◌<◌, ◌↔◌, [], ◌∷◌, ◌++◌, IsTrue, length, map, MatchResult};
-ghost use Rattle.ck_lookup.specs.Limits.{AreWithin, line_count};
+ghost use Rattle.ck_lookup.specs.Limits.{AreWithin};
 ghost use Rattle.ck_lookup.specs.Fetching.{IsNotAdded};
 
-use ck_script::first_line;
+use ck_script::count_lines;
 use std::alloc::{AllocFailed, Global};
 use std::marker::Model;
 
@@ -84,7 +84,7 @@ impl Files {
             (IsNotAdded self.old file.items self.new) }
     {
         let bytes = file.len() as u64;
-        let lines = line_count(&file);
+        let lines = count_lines(&file);
         if !is_within(bytes, lines, self.bytes, self.lines) {
             return Err(NotAdded::TooLarge);
         }
@@ -105,17 +105,4 @@ fn is_within(bytes: u64, lines: u64, bytes_before: u64, lines_before: u64) -> bo
         && lines <= MOST_LINES
         && bytes_before + bytes <= ALL_BYTES
         && lines_before + lines <= ALL_LINES
-}
-
-// How many lines a file has.
-fn line_count(bytes: &[u8]) -> u64
-    ensures { result ≡ line_count bytes.now }
-{
-    let mut count: u64 = 0;
-    let mut rest = bytes;
-    while !rest.is_empty() {
-        count += 1;
-        rest = first_line(rest).1;
-    }
-    count
 }

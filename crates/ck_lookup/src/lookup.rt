@@ -7,9 +7,10 @@ ghost use Rattle.ck_lookup.specs.Headline.{IsReport};
 ghost use Rattle.ck_lookup.specs.Causes.{Tells, Ends, IsClear, IsDoneOrNoMemory};
 
 use crate::outcome::Outcome;
-use crate::report::report_of;
+use crate::report::{put_scripts, scripts_of};
 use crate::words::read_words;
-use ck_io::{Gate, Shelf, Sink, put_all};
+use ck_io::{Gate, Shelf, Sink};
+use ck_report::PutError;
 use std::alloc::Global;
 use std::sync::Wait;
 use std::thread::Threads;
@@ -102,11 +103,12 @@ fn run_table<S: Shelf, K: Sink, G: Gate>(
     ensures shelf_lasting { NeverFall (S.faults shelf.old) (S.faults shelf.new) }
     ensures sink_lasting { K.faults sink.old ≤ K.faults sink.new }
 {
-    match report_of(alloc, updates, queries, shelf, gate) {
+    match scripts_of(alloc, updates, queries, shelf) {
         Err(refusal) => refusal,
-        Ok(text) => match put_all(sink, &text) {
+        Ok(scripts) => match put_scripts(alloc, &scripts, sink, gate) {
             Ok(()) => Outcome::Done,
-            Err(_) => Outcome::WriteFault,
+            Err(PutError::Failed) => Outcome::WriteFault,
+            Err(PutError::Memory) => Outcome::NoMemory,
         },
     }
 }

@@ -1,5 +1,7 @@
-ghost use Rattle.std.specs.Prelude.{◌≡◌, ◌∷◌, List, ℕ, IfOk, IfErr, map, length, ◌<◌};
+ghost use Rattle.std.specs.Prelude.{◌≡◌, ◌∷◌, List, ℕ, IfOk, IfErr, OnOk, OnErr, map, length, ◌<◌, ◌≤◌};
 ghost use Rattle.ck_io.specs.Faults.{NeverFall};
+ghost use Rattle.ck_io.specs.Sink.{appended, AppendsPrefix};
+ghost use Rattle.ck_report.specs.Streaming.{IsPutCause};
 ghost use Rattle.ck_script.specs.Script.{said_of};
 ghost use Rattle.ck_lookup.specs.Headline.{IsReport};
 ghost use Rattle.ck_lookup.specs.Causes.{Tells, AreAllWithin};
@@ -9,35 +11,34 @@ use crate::fetch::fetch_all;
 use crate::outcome::Outcome;
 use crate::scripts::{Scripts, read_scripts};
 use crate::table::{answer_files, make_updates};
-use ck_io::{Gate, Shelf};
-use ck_report::report_map;
-use std::alloc::{AllocError, Global};
+use ck_io::{Gate, Shelf, Sink};
+use ck_report::{PutError, put_report};
+use std::alloc::Global;
 
-/// The report of the files under these names, or the outcome of a run that gets none.
-pub fn report_of<S: Shelf, G: Gate>(
+/// What the files under these names say, or the outcome of a run that gets no report.
+pub fn scripts_of<S: Shelf>(
     alloc: Global,
     updates: &str,
     queries: &[&str],
     shelf: &mut S,
-    gate: &G,
-) -> Result<Vec<u8>, Outcome>
-    ensures within { IfOk result (λ text. AreAllWithin (S.held shelf.old) (updates.now ∷ map (λ name. name.now) queries.now)) }
-    ensures report { IfOk result (λ text. (update_file : List ℕ) (query_files : List (List ℕ))
+) -> Result<Scripts, Outcome>
+    ensures within { IfOk result (λ scripts. AreAllWithin (S.held shelf.old) (updates.now ∷ map (λ name. name.now) queries.now)) }
+    ensures report { IfOk result (λ scripts. (update_file : List ℕ) (query_files : List (List ℕ))
         → Tells (S.held shelf.old) (updates.now ∷ map (λ name. name.now) queries.now) update_file query_files
-        → IsReport update_file query_files text.items) }
+        → IsReport update_file query_files (text_of (said_of scripts.ups.items) (map said_of (map (λ file. file.items) scripts.asks.items)))) }
     ensures refused { IfErr result (IsRefusedRun (S.held shelf.old) (updates.now ∷ map (λ name. name.now) queries.now) (S.faults shelf.old) (S.faults shelf.new)) }
     ensures held { S.held shelf.new ≡ S.held shelf.old }
     ensures lasting { NeverFall (S.faults shelf.old) (S.faults shelf.new) }
 {
     let files = fetch_all(alloc, shelf, updates, queries)?;
-    text_of_files(alloc, files.all(), gate)
+    scripts_of_files(alloc, files.all())
 }
 
-// The report of the bytes of files, the update file first.
-fn text_of_files<G: Gate>(alloc: Global, files: &[Vec<u8>], gate: &G) -> Result<Vec<u8>, Outcome>
+// What the bytes of files say, the update file first.
+fn scripts_of_files(alloc: Global, files: &[Vec<u8>]) -> Result<Scripts, Outcome>
     requires { 0 < length files.now }
     ensures report { (update_file : List ℕ) (query_files : List (List ℕ)) → map (λ file. file.items) files.now ≡ update_file ∷ query_files
-        → IfOk result (λ text. IsReport update_file query_files text.items) }
+        → IfOk result (λ scripts. IsReport update_file query_files (text_of (said_of scripts.ups.items) (map said_of (map (λ file. file.items) scripts.asks.items)))) }
     ensures refused { (update_file : List ℕ) (query_files : List (List ℕ)) → map (λ file. file.items) files.now ≡ update_file ∷ query_files
         → IfErr result (IsRefusedScript update_file query_files) }
 {
@@ -45,20 +46,24 @@ fn text_of_files<G: Gate>(alloc: Global, files: &[Vec<u8>], gate: &G) -> Result<
         [] => unreachable!(),
         [update_file, query_files @ ..] => {
             let scripts = read_scripts(alloc, update_file, query_files)?;
-            Ok(text_of_scripts(alloc, &scripts, gate)?)
+            Ok(scripts)
         }
     }
 }
 
-// The report of what files say.
-fn text_of_scripts<G: Gate>(
+/// Puts the report of what files say, piece by piece.
+pub fn put_scripts<K: Sink, G: Gate>(
     alloc: Global,
     scripts: &Scripts,
+    sink: &mut K,
     gate: &G,
-) -> Result<Vec<u8>, AllocError>
-    ensures { IfOk result (λ text. text.items ≡ text_of (said_of scripts.now.ups.items) (map said_of (map (λ file. file.items) scripts.now.asks.items))) }
+) -> Result<(), PutError>
+    ensures all { OnOk result (K.taken sink.new ≡ appended (K.taken sink.old) (text_of (said_of scripts.now.ups.items) (map said_of (map (λ file. file.items) scripts.now.asks.items)))) }
+    ensures prefix { OnErr result (AppendsPrefix (K.taken sink.old) (K.taken sink.new) (text_of (said_of scripts.now.ups.items) (map said_of (map (λ file. file.items) scripts.now.asks.items)))) }
+    ensures cause { IfErr result (λ error. IsPutCause error (K.faults sink.old) (K.faults sink.new)) }
+    ensures lasting { K.faults sink.old ≤ K.faults sink.new }
 {
     let (book, replies) = make_updates(alloc, &scripts.ups, gate)?;
     let answers = answer_files(alloc, &book, &scripts.asks, gate)?;
-    report_map(alloc, &replies, &answers, book.pairs())
+    put_report(alloc, sink, &replies, &answers, book.pairs())
 }

@@ -1,3 +1,5 @@
 pub mod Text
 pub mod Reports
 pub mod Lines
+pub mod Streaming
+pub mod Tails

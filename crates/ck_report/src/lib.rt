@@ -8,6 +8,7 @@ mod line;
 mod map_report;
 mod place;
 mod print;
+mod put;
 mod read;
 mod read_line;
 #[cfg(test)]
@@ -16,4 +17,5 @@ mod tests;
 pub use asked::Asked;
 pub use map_report::{MapReport, ReportError};
 pub use print::report_map;
+pub use put::{PutError, put_report};
 pub use read::read_map_report;

@@ -25,7 +25,7 @@ pub none_before : (c : ℕ) (bs : List ℕ) (j : ℕ) → Nowhere (Passes (is_by
 none_before c bs j nowhere k below = false_from_ne_true _ (nowhere k (omega arith) below)
 
 -- there is a part
-parts_cons : (c : ℕ) (bs : List ℕ) → (first : List ℕ) × (more : List (List ℕ)) × (parts c bs ≡ first ∷ more)
+pub parts_cons : (c : ℕ) (bs : List ℕ) → (first : List ℕ) × (more : List (List ℕ)) × (parts c bs ≡ first ∷ more)
 parts_cons c [] = ([], [], refl)
 parts_cons c (b ∷ bs) =
     let later = parts_cons c bs in

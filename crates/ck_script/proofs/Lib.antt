@@ -7,3 +7,5 @@ pub mod Fronts
 pub mod Circles
 pub mod Meaning
 pub mod Shorts
+pub mod Prefixes
+pub mod Counting

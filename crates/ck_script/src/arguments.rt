@@ -1,9 +1,10 @@
-ghost use Rattle.std.specs.Prelude.{◌≡◌, ◌≢◌, ◌<◌, ◌^◌, [], ◌∷◌, length, decimal, MatchOption, MatchResult};
+ghost use Rattle.std.specs.Prelude.{◌≡◌, ◌≢◌, ◌<◌, ◌^◌, [], ◌∷◌, length, decimal, IfSome, MatchOption, MatchResult};
 ghost use Rattle.ck_script.specs.declared.fault.Why.TheVariants.{Shape};
 ghost use Rattle.ck_script.specs.Text.{words_after};
+ghost use Rattle.ck_script.specs.Reading.{HasKeyPrefix, HasPairPrefix};
 ghost use Rattle.ck_script.specs.Grammar.{key, number, HasArgumentFault};
 
-use crate::decimal::read_number;
+use crate::decimal::{number_prefix, read_number};
 use crate::fault::Why;
 use crate::key_word::KeyWord;
 use crate::parts::cut;
@@ -80,4 +81,32 @@ fn one_word(rest: Option<&[u8]>) -> Option<&[u8]>
         None => Some(word),
         Some(_) => None,
     }
+}
+
+/// The key and the number that a text begins with, and how many bytes they take with the space between them and the line
+/// feed after them. None says nothing.
+pub fn pair_prefix<K: KeyWord>(text: &[u8]) -> Option<(K, u64, usize)>
+    ensures { IfSome result (λ x. HasPairPrefix K.is_key K.spelling text.now x.0 x.1 x.2) }
+{
+    let (key, m) = K::read_prefix(text)?;
+    if text[m] != b' ' {
+        return None;
+    }
+    let (_, rest) = text.split_at(m + 1);
+    let (number, n) = number_prefix(rest)?;
+    if rest[n] != b'\n' {
+        return None;
+    }
+    Some((key, number, (m + 1) + (n + 1)))
+}
+
+/// The key that a text begins with, and how many bytes it takes with the line feed after it. None says nothing.
+pub fn key_prefix<K: KeyWord>(text: &[u8]) -> Option<(K, usize)>
+    ensures { IfSome result (λ x. HasKeyPrefix K.is_key K.spelling text.now x.0 x.1) }
+{
+    let (key, m) = K::read_prefix(text)?;
+    if text[m] != b'\n' {
+        return None;
+    }
+    Some((key, m + 1))
 }

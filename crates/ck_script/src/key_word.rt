@@ -1,7 +1,8 @@
-ghost use Rattle.std.specs.Prelude.{◌≡◌, ◌++◌, MatchResult, OnOk, OnErr};
+ghost use Rattle.std.specs.Prelude.{◌≡◌, ◌++◌, ◌+◌, ◌<◌, ◌≤◌, length, take, drop, IfSome, MatchResult, OnOk, OnErr};
 
-use crate::decimal::read_decimal;
+use crate::decimal::{number_prefix, read_decimal};
 use crate::fault::Why;
+use crate::prepend::{prepend_bytes, prepend_number};
 use ck_history::Key;
 use itoa::Buffer;
 use std::alloc::AllocError;
@@ -25,10 +26,22 @@ pub trait KeyWord: Copy {
     fn read_word(text: &[u8]) -> Result<Self, Why>
         ensures { MatchResult result (λ k. is_key k × (text.now ≡ spelling k)) (λ why. is_fault text.now why) };
 
+    /// The key that a text begins with, and how many bytes spell it. Something stands after them. None says nothing.
+    fn read_prefix(text: &[u8]) -> Option<(Self, usize)>
+        ensures { IfSome result (λ x. is_key x.0 × (x.1 < length text.now) × (take x.1 text.now ≡ spelling x.0)) };
+
     /// Writes the key's word at the end. An `AllocError` leaves the text as it was.
     fn print_word(&self, out: &mut Vec<u8>) -> Result<(), AllocError>
         ensures ok { OnOk result (out.new.items ≡ out.old.items ++ spelling self.now) }
         ensures err { OnErr result (out.new.items ≡ out.old.items) };
+
+    /// Writes the key's word, of at most 48 bytes, so that it ends at `end`, and returns where it starts.
+    fn prepend_word(&self, text: &mut [u8], end: usize) -> usize
+        requires room { 48 ≤ end }
+        requires within { end ≤ length text.old }
+        ensures start { result + length (spelling self.now) ≡ end }
+        ensures short { end ≤ result + 48 }
+        ensures written { drop result text.new ≡ spelling self.now ++ drop end text.old };
 
     /// No two keys have one spelling.
     ghost one_key: { (j k : Self) → is_key j → is_key k → spelling j ≡ spelling k → j ≡ k };
@@ -64,6 +77,12 @@ impl KeyWord for Key {
         }
     }
 
+    fn read_prefix(text: &[u8]) -> Option<(Key, usize)> {
+        let (n, count) = number_prefix(text)?;
+        let key = Key::new(n as u128)?;
+        Some((key, count))
+    }
+
     fn print_word(&self, out: &mut Vec<u8>) -> Result<(), AllocError> {
         let n = self.get();
         let mut buffer = Buffer::new();
@@ -71,6 +90,16 @@ impl KeyWord for Key {
             out.extend_from_slice(buffer.format(n as u64).as_bytes())
         } else {
             out.extend_from_slice(buffer.format(n).as_bytes())
+        }
+    }
+
+    fn prepend_word(&self, text: &mut [u8], end: usize) -> usize {
+        let n = self.get();
+        if n <= u64::MAX as u128 {
+            prepend_number(text, end, n as u64)
+        } else {
+            let mut buffer = Buffer::new();
+            prepend_bytes(text, end, buffer.format(n).as_bytes())
         }
     }
 }

@@ -10,6 +10,7 @@ mod fault;
 mod key_word;
 mod line;
 mod parts;
+mod prepend;
 mod read;
 mod script_line;
 
@@ -19,7 +20,8 @@ pub use decimal::{read_decimal, read_number};
 pub use fault::{ScriptError, ScriptFault, Why};
 pub use key_word::KeyWord;
 pub use line::{AskLine, Numbered, UpLine};
-pub use parts::{cut, first_line};
+pub use parts::{count_lines, cut, first_line};
+pub use prepend::{prepend_bytes, prepend_number};
 pub use read::{read_queries, read_updates};
 
 #[cfg(test)]

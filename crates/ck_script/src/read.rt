@@ -1,6 +1,6 @@
-ghost use Rattle.std.specs.Prelude.{◌≡◌, ◌<◌, ◌^◌, IfOk, IfErr, OnOk};
+ghost use Rattle.std.specs.Prelude.{◌≡◌, ◌<◌, ◌^◌, length, IfOk, IfErr, OnOk};
 ghost use Rattle.ck_script.specs.Grammar.{FileSays, IsFirstFault, IfFault, Adds, HasFault, update_words, IsUpdateLine, update_verbs, query_words, IsQueryLine, query_verbs};
-ghost use Rattle.ck_script.specs.Reading.{IsFaultyLine};
+ghost use Rattle.ck_script.specs.Reading.{IsFaultyFirstLine, IsFaultyLine, TakesLine};
 
 use crate::fault::{ScriptError, ScriptFault, Why};
 use crate::key_word::KeyWord;
@@ -46,12 +46,35 @@ fn read_lines<L: ScriptLine>(alloc: Global, bytes: &[u8]) -> Result<Vec<Numbered
     let mut rest = bytes;
     let mut number: u64 = 0;
     while !rest.is_empty() {
-        let (line, later) = first_line(rest);
         number += 1;
-        add_line(&mut said, number, line)?;
-        rest = later;
+        rest = take_line(&mut said, number, rest)?;
     }
     Ok(said)
+}
+
+// Adds what the first line of a text says, if it says something. The text after it is left.
+fn take_line<'a, L: ScriptLine>(
+    said: &mut Vec<Numbered<L>>,
+    number: u64,
+    text: &'a [u8],
+) -> Result<&'a [u8], ScriptError>
+    requires { 0 < length text.now }
+    ensures ok { IfOk result (λ later. TakesLine L.is_taken L.spelling number text.now later.now said.old.items said.new.items) }
+    ensures fault { IfErr result (λ error. IfFault error (IsFaultyFirstLine L.is_fault number text.now)) }
+{
+    // Nearly every line is a verb with a short key and a short number, and is read in the same pass that finds its end.
+    // Any other line, a faulty one too, is cut out first and judged as a whole.
+    match L::read_prefix(text) {
+        Some((what, n)) => {
+            said.push(Numbered { line: number, what })?;
+            Ok(text.split_at(n).1)
+        }
+        None => {
+            let (line, later) = first_line(text);
+            add_line(said, number, line)?;
+            Ok(later)
+        }
+    }
 }
 
 // Adds what a line says, if it says something.

@@ -1,8 +1,9 @@
-ghost use Rattle.std.specs.Prelude.{MatchResult};
+ghost use Rattle.std.specs.Prelude.{◌≡◌, ◌≤◌, length, take, IsTrue, IfSome, MatchResult};
 ghost use Rattle.ck_script.specs.Grammar.{Says};
+ghost use Rattle.ck_script.specs.Reading.{HasLinePrefix};
 ghost use Rattle.ck_script.specs.Text.{words};
 
-use crate::arguments::{key_and_number, no_word, only_key, only_number};
+use crate::arguments::{key_and_number, key_prefix, no_word, only_key, only_number, pair_prefix};
 use crate::fault::Why;
 use crate::key_word::KeyWord;
 use crate::line::{AskLine, UpLine};
@@ -27,6 +28,10 @@ pub trait ScriptLine: Copy {
     /// What the line says, or what is wrong with it.
     fn read_line(line: &[u8]) -> Result<Self, Why>
         ensures { MatchResult result (Says is_taken spelling line.now) (is_fault (words line.now)) };
+
+    /// What the first line of a text says, and how many bytes it takes with its line feed. None says nothing.
+    fn read_prefix(text: &[u8]) -> Option<(Self, usize)>
+        ensures { IfSome result (λ x. HasLinePrefix is_taken spelling text.now x.0 x.1) };
 
     /// No two lines have the same words.
     ghost one_line: { (a b : Self) → is_taken a → is_taken b → spelling a ≡ spelling b → a ≡ b };
@@ -54,6 +59,25 @@ impl<K: KeyWord> ScriptLine for UpLine<Update<K>> {
     ghost speaks = { update_speaks K.is_key K.spelling };
 
     ghost faultless = { update_faultless K.is_key K.spelling K.is_fault K.faultless };
+
+    fn read_prefix(text: &[u8]) -> Option<(UpLine<Update<K>>, usize)> {
+        if text.len() < 4 {
+            return None;
+        }
+        let rest = text.split_at(4).1;
+        if begins(text, b"set ") {
+            let (key, value, n) = pair_prefix(rest)?;
+            Some((UpLine::Call(Update::Set(key, value)), 4 + n))
+        } else if begins(text, b"put ") {
+            let (key, value, n) = pair_prefix(rest)?;
+            Some((UpLine::Call(Update::Put(key, value)), 4 + n))
+        } else if begins(text, b"del ") {
+            let (key, n) = key_prefix(rest)?;
+            Some((UpLine::Call(Update::Del(key)), 4 + n))
+        } else {
+            None
+        }
+    }
 
     fn read_line(line: &[u8]) -> Result<UpLine<Update<K>>, Why> {
         let (verb, rest) = cut(line, b' ');
@@ -91,6 +115,19 @@ impl<K: KeyWord> ScriptLine for AskLine<K> {
 
     ghost faultless = { query_faultless K.is_key K.spelling K.is_fault K.faultless };
 
+    fn read_prefix(text: &[u8]) -> Option<(AskLine<K>, usize)> {
+        if text.len() < 4 {
+            return None;
+        }
+        let rest = text.split_at(4).1;
+        if begins(text, b"get ") {
+            let (key, n) = key_prefix(rest)?;
+            Some((AskLine::Ask(key), 4 + n))
+        } else {
+            None
+        }
+    }
+
     fn read_line(line: &[u8]) -> Result<AskLine<K>, Why> {
         let (verb, rest) = cut(line, b' ');
         if verb == b"get".as_slice() {
@@ -102,4 +139,12 @@ impl<K: KeyWord> ScriptLine for AskLine<K> {
             Err(Why::Verb)
         }
     }
+}
+
+// Whether a text begins with these four bytes.
+fn begins(text: &[u8], verb: &[u8]) -> bool
+    requires { 4 ≤ length text.now }
+    ensures { IsTrue result → take 4 text.now ≡ verb.now }
+{
+    text.split_at(4).0 == verb
 }

@@ -8,6 +8,6 @@ returns-then-not-is_within c = (
   refl,
   λ within.
       let fits = fits_if_within _ c.self.inside.bytes c.self.inside.lines c.args.file.items c.self.invariant (rw (← c.self.view_is) at within) in
-      let held = rw c.deref.ensures.value at c.line_count-lines.ensures in
+      let held = rw c.deref.ensures.value at c.count_lines-lines.ensures in
       false≢true (c.if-not-is_within.ensures.1 (omega (arith, fits.0), omega (arith, fits.1, held), omega (arith, fits.2), omega (arith, fits.3, held))),
 )

@@ -1,0 +1,200 @@
+//! Reports that go to a sink piece by piece, from one buffer.
+ghost use Rattle.std.specs.Prelude.{◌≡◌, ◌≤◌, ◌++◌, ◌∷◌, [], map, length, take, drop, codes, OnOk, OnErr, IfOk, IfErr};
+ghost use Rattle.ck_io.specs.Faults.{Rose};
+ghost use Rattle.ck_io.specs.Sink.{appended, AppendsPrefix};
+ghost use Rattle.ck_report.specs.declared.put.PutError.TheVariants.{Failed, Memory};
+ghost use Rattle.ck_report.specs.Text.{report_text, reply_lines, answer_lines, file_lines, pair_lines};
+ghost use Rattle.ck_report.specs.Streaming.{IsStreamed, IsPutCause};
+
+use crate::asked::Asked;
+use crate::print::{print_answer, print_pair, print_reply};
+use ck_history::Reply;
+use ck_io::{Sink, SinkFailed, put_all};
+use ck_script::KeyWord;
+use std::alloc::{AllocError, Global};
+
+/// Why a report wasn't put whole.
+#[derive(Clone, Copy, PartialEq, Eq, Debug)]
+pub enum PutError {
+    /// The sink failed.
+    Failed,
+    /// There was no memory.
+    Memory,
+}
+
+impl From<SinkFailed> for PutError {
+    ghost from_gives = { λ _ error. error ≡ Failed };
+
+    fn from(_: SinkFailed) -> PutError {
+        PutError::Failed
+    }
+}
+
+impl From<AllocError> for PutError {
+    ghost from_gives = { λ _ error. error ≡ Memory };
+
+    fn from(_: AllocError) -> PutError {
+        PutError::Memory
+    }
+}
+
+/// How many bytes a put is offered, where the report has more.
+const PIECE: usize = 65536;
+
+/// From this length on the buffer's whole pieces are put. At least one is, and what is left to move to the front is less
+/// than one, so fewer bytes are moved than put.
+const FULL: usize = 2 * PIECE;
+
+/// How many bytes the buffer has room for: no line of a table's report is longer than 128 bytes.
+const ROOM: usize = FULL + 128;
+
+/// Puts a report: the replies, the answers of each query file, and the pairs at the end. It offers to each put all that is
+/// left, or the next 65,536 bytes where more is left. Where it fails, the sink took a prefix of the report.
+pub fn put_report<S: Sink, K: KeyWord>(
+    alloc: Global,
+    sink: &mut S,
+    replies: &[Reply],
+    answers: &[Vec<Asked<K>>],
+    pairs: &[(K, u64)],
+) -> Result<(), PutError>
+    ensures all { OnOk result (S.taken sink.new ≡ appended (S.taken sink.old) (report_text K.spelling replies.now (map (λ file. file.items) answers.now) pairs.now)) }
+    ensures prefix { OnErr result (AppendsPrefix (S.taken sink.old) (S.taken sink.new) (report_text K.spelling replies.now (map (λ file. file.items) answers.now) pairs.now)) }
+    ensures cause { IfErr result (λ error. IsPutCause error (S.faults sink.old) (S.faults sink.new)) }
+    ensures lasting { S.faults sink.old ≤ S.faults sink.new }
+{
+    let mut buffer = Vec::with_capacity(alloc, ROOM)?;
+    put_replies(sink, &mut buffer, replies)?;
+    put_files(sink, &mut buffer, answers)?;
+    put_pairs(sink, &mut buffer, pairs)?;
+    put_end(sink, &mut buffer)
+}
+
+// Puts the buffer's whole pieces where it is full.
+fn put_full<S: Sink>(sink: &mut S, buffer: &mut Vec<u8>) -> Result<(), SinkFailed>
+    ensures ok { OnOk result (IsStreamed (S.taken sink.old) (S.taken sink.new) buffer.old.items buffer.new.items) }
+    ensures err { OnErr result (AppendsPrefix (S.taken sink.old) (S.taken sink.new) buffer.old.items) }
+    ensures cause { OnErr result (Rose (S.faults sink.old) (S.faults sink.new)) }
+    ensures lasting { S.faults sink.old ≤ S.faults sink.new }
+{
+    if buffer.len() >= FULL {
+        let done = put_pieces(sink, buffer)?;
+        drop_first(buffer, done);
+    }
+    Ok(())
+}
+
+// Puts a text as long as a whole piece of it is left: how many bytes were taken. A sink that takes a part of a piece is
+// offered a whole one again, so what a put is offered doesn't rest on what this buffer holds.
+fn put_pieces<S: Sink>(sink: &mut S, text: &[u8]) -> Result<usize, SinkFailed>
+    ensures ok { IfOk result (λ done. S.taken sink.new ≡ appended (S.taken sink.old) (take done text.now)) }
+    ensures within { IfOk result (λ done. done ≤ length text.now) }
+    ensures err { OnErr result (AppendsPrefix (S.taken sink.old) (S.taken sink.new) text.now) }
+    ensures cause { OnErr result (Rose (S.faults sink.old) (S.faults sink.new)) }
+    ensures lasting { S.faults sink.old ≤ S.faults sink.new }
+{
+    let mut done = 0;
+    while text.len() - done >= PIECE {
+        done += sink.put(&text[done..done + PIECE])? as usize;
+    }
+    Ok(done)
+}
+
+// Leaves the first bytes out.
+fn drop_first(buffer: &mut Vec<u8>, count: usize)
+    requires { count ≤ length buffer.old.items }
+    ensures { buffer.new.items ≡ drop count buffer.old.items }
+{
+    let rest = buffer.len() - count;
+    buffer.copy_within(count.., 0);
+    buffer.truncate(rest);
+}
+
+// Puts the last line, and all that is still to be put before it.
+fn put_end<S: Sink>(sink: &mut S, buffer: &mut Vec<u8>) -> Result<(), PutError>
+    ensures ok { OnOk result (S.taken sink.new ≡ appended (S.taken sink.old) (buffer.old.items ++ codes "end\n")) }
+    ensures err { OnErr result (AppendsPrefix (S.taken sink.old) (S.taken sink.new) (buffer.old.items ++ codes "end\n")) }
+    ensures cause { IfErr result (λ error. IsPutCause error (S.faults sink.old) (S.faults sink.new)) }
+    ensures lasting { S.faults sink.old ≤ S.faults sink.new }
+{
+    buffer.extend_from_slice(b"end\n")?;
+    put_all(sink, buffer)?;
+    Ok(())
+}
+
+// The lines of the replies.
+fn put_replies<S: Sink>(
+    sink: &mut S,
+    buffer: &mut Vec<u8>,
+    replies: &[Reply],
+) -> Result<(), PutError>
+    ensures ok { OnOk result (IsStreamed (S.taken sink.old) (S.taken sink.new) (buffer.old.items ++ reply_lines 1 replies.now) buffer.new.items) }
+    ensures err { OnErr result (AppendsPrefix (S.taken sink.old) (S.taken sink.new) (buffer.old.items ++ reply_lines 1 replies.now)) }
+    ensures cause { IfErr result (λ error. IsPutCause error (S.faults sink.old) (S.faults sink.new)) }
+    ensures lasting { S.faults sink.old ≤ S.faults sink.new }
+{
+    let mut i: u64 = 0;
+    for reply in replies {
+        i += 1;
+        print_reply(buffer, i, reply)?;
+        put_full(sink, buffer)?;
+    }
+    Ok(())
+}
+
+// The lines of the answers of each file.
+fn put_files<S: Sink, K: KeyWord>(
+    sink: &mut S,
+    buffer: &mut Vec<u8>,
+    files: &[Vec<Asked<K>>],
+) -> Result<(), PutError>
+    ensures ok { OnOk result (IsStreamed (S.taken sink.old) (S.taken sink.new) (buffer.old.items ++ file_lines K.spelling 1 (map (λ file. file.items) files.now)) buffer.new.items) }
+    ensures err { OnErr result (AppendsPrefix (S.taken sink.old) (S.taken sink.new) (buffer.old.items ++ file_lines K.spelling 1 (map (λ file. file.items) files.now))) }
+    ensures cause { IfErr result (λ error. IsPutCause error (S.faults sink.old) (S.faults sink.new)) }
+    ensures lasting { S.faults sink.old ≤ S.faults sink.new }
+{
+    let mut f: u64 = 0;
+    for answers in files {
+        f += 1;
+        put_answers(sink, buffer, f, answers)?;
+    }
+    Ok(())
+}
+
+// The lines of the answers of one file.
+fn put_answers<S: Sink, K: KeyWord>(
+    sink: &mut S,
+    buffer: &mut Vec<u8>,
+    f: u64,
+    answers: &[Asked<K>],
+) -> Result<(), PutError>
+    ensures ok { OnOk result (IsStreamed (S.taken sink.old) (S.taken sink.new) (buffer.old.items ++ answer_lines K.spelling f 1 answers.now) buffer.new.items) }
+    ensures err { OnErr result (AppendsPrefix (S.taken sink.old) (S.taken sink.new) (buffer.old.items ++ answer_lines K.spelling f 1 answers.now)) }
+    ensures cause { IfErr result (λ error. IsPutCause error (S.faults sink.old) (S.faults sink.new)) }
+    ensures lasting { S.faults sink.old ≤ S.faults sink.new }
+{
+    let mut i: u64 = 0;
+    for answer in answers {
+        i += 1;
+        print_answer(buffer, f, i, answer)?;
+        put_full(sink, buffer)?;
+    }
+    Ok(())
+}
+
+// The lines of the pairs.
+fn put_pairs<S: Sink, K: KeyWord>(
+    sink: &mut S,
+    buffer: &mut Vec<u8>,
+    pairs: &[(K, u64)],
+) -> Result<(), PutError>
+    ensures ok { OnOk result (IsStreamed (S.taken sink.old) (S.taken sink.new) (buffer.old.items ++ pair_lines K.spelling pairs.now) buffer.new.items) }
+    ensures err { OnErr result (AppendsPrefix (S.taken sink.old) (S.taken sink.new) (buffer.old.items ++ pair_lines K.spelling pairs.now)) }
+    ensures cause { IfErr result (λ error. IsPutCause error (S.faults sink.old) (S.faults sink.new)) }
+    ensures lasting { S.faults sink.old ≤ S.faults sink.new }
+{
+    for pair in pairs {
+        print_pair(buffer, &pair.0, pair.1)?;
+        put_full(sink, buffer)?;
+    }
+    Ok(())
+}
