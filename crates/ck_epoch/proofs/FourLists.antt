@@ -3,14 +3,11 @@ use Rattle.std.proofs.Common.{◌≡◌, ◌≢◌, ℕ, ◌+◌, ◌%◌, Bool,
 use Rattle.std.proofs.lemmas.List.{append_assoc, map-append}
 use Rattle.std.proofs.lemmas.List.{length-append}
 use Rattle.std.proofs.lemmas.List.Filters.{length-filter_both}
-use Rattle.std.proofs.lemmas.List.Elements.{All-filter}
 use mathlib.Core.Logic.{dite}
 use native.Mathlib.Decide.{ℕ_discrete}
-use Rattle.ck_words.specs.declared.back.Back.{Back}
-use Rattle.ck_epoch.specs.declared.item.Item.{Item}
 use Rattle.ck_epoch.specs.declared.item.Retired.{Retired}
 use Rattle.ck_epoch.specs.State.{Retirement, queue, on_list, off_list, list_by_list}
-use Rattle.ck_epoch.specs.Lists.{is_on, on, off, by_list, homes, Backlog, answered, AreRetired}
+use Rattle.ck_epoch.specs.Lists.{is_on, on, off, by_list}
 
 off_same : (list : ℕ) (r : Retired) (xs : List Retired) → r.epoch % 4 ≡ list → off list (r ∷ xs) ≡ off list xs
 off_same list r xs e = ap (λ (b : Bool). cond (not b) (r ∷ off list xs) (off list xs)) (eq-eqb (r.epoch % 4) list e)
@@ -85,33 +82,6 @@ length_by_list xs =
 pub queue_off : (list : ℕ) (ks : List Retirement) → queue (off_list list ks) ≡ off list (queue ks)
 queue_off list [] = refl
 queue_off list (k ∷ ks) = map_cond (not (is_on list k.retired)) k (off_list list ks) ∙ ap (λ (rs : List Retired). cond (not (is_on list k.retired)) (k.retired ∷ rs) rs) (queue_off list ks)
-
-module _ (home : Item → Back) where
-  -- one list is dispatched
-  abbrev pub one : ℕ → Backlog → Backlog
-  one list b = answered home (on list b.pending) (off list b.pending) b
-
-  -- what is left may be retired as before
-  pub still_retired : (retires : Item → Bool) (list : ℕ) (b c : Backlog) → c ≡ one list b → AreRetired retires b.pending → AreRetired retires c.pending
-  still_retired retires list b c is may = subst (λ (x : Backlog). AreRetired retires x.pending) (sym is) (All-filter (λ (r : Retired). not (is_on list r)) (λ (r : Retired). retires r.item ≡ true) b.pending may)
-
-  homes-append : (xs ys : List Retired) → homes home (xs ++ ys) ≡ homes home xs ++ homes home ys
-  homes-append xs ys = map-append (λ (r : Retired). home r.item) xs ys
-
-  -- first some items and then others
-  two : (b : Backlog) (xs ys kept kept' : List Retired) → answered home ys kept' (answered home xs kept b) ≡ answered home (xs ++ ys) kept' b
-  two b xs ys kept kept' = ap (λ (ws : List Back). record b { pending = kept'; waiting = ws })
-      (append_assoc b.waiting (homes home xs) (homes home ys) ∙ ap (λ (hs : List Back). b.waiting ++ hs) (sym (homes-append xs ys)))
-
-  pub all_four : (b : Backlog) → one 3 (one 2 (one 1 (one 0 b))) ≡ answered home (by_list b.pending) [] b
-  all_four b =
-      let xs = b.pending in
-      let o0 = off 0 xs in let o1 = off 1 o0 in let o2 = off 2 o1 in
-      ap (λ (c : Backlog). one 3 (one 2 c)) (two b (on 0 xs) (on 1 o0) o0 o1)
-      ∙ (ap (one 3) (two b (on 0 xs ++ on 1 o0) (on 2 o1) o1 o2)
-      ∙ (two b ((on 0 xs ++ on 1 o0) ++ on 2 o1) (on 3 o2) o2 (off 3 o2)
-      ∙ (ap (λ (kept : List Retired). answered home (((on 0 xs ++ on 1 o0) ++ on 2 o1) ++ on 3 o2) kept b) (none_left xs)
-      ∙ ap (λ (gone : List Retired). answered home gone [] b) (in_order xs))))
 
 pub queue_on : (list : ℕ) (ks : List Retirement) → queue (on_list list ks) ≡ on list (queue ks)
 queue_on list [] = refl

@@ -1,4 +1,4 @@
-pub mod Dispatching
+mod Emptying
 pub mod FourLists
 pub mod Places
 mod Records

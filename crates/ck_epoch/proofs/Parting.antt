@@ -14,7 +14,7 @@ use Rattle.ck_epoch.specs.declared.about.About.{About}
 use Rattle.ck_epoch.specs.State.{Origin, Token, TokenState, start, records_of, base_of, epochs, queue, state}
 use Rattle.ck_epoch.specs.Client.{Client, Starts, program}
 use Rattle.ck_epoch.specs.declared.item.Retired.{Retired}
-use Rattle.ck_epoch.specs.Lists.{Backlog, AreRetired}
+use Rattle.ck_epoch.specs.Lists.{Backlog, AreListsOf, AreRetired}
 use Rattle.ck_epoch.specs.Ends.{Pass, IsInRun, IsWriter, IsPass}
 use Rattle.ck_epoch.specs.Closing.{AreOpening, keeping, fresh, AreFresh, joined_all, IsClosedDomain}
 use Rattle.ck_epoch.proofs.EpochLaw.{safe, keeps_epochs}
@@ -72,14 +72,14 @@ module _ {C : Type 0} where
           let z : (state t).calls ≡ 0 = ap (λ (s : TokenState). s.calls) there in omega arith,
         )
 
-    pub new_writer : (t : Token C) (b : Backlog) → t ≡ fresh table 0 → b.pending ≡ [] → IsWriter client t b × ((state t).calls ≤ 0)
+    pub new_writer : (t : Token C) (b : Backlog) → t ≡ fresh table 0 → AreListsOf b.lists [] → IsWriter client t b × ((state t).calls ≤ 0)
     new_writer t b is none = (
       record {
         part = new_in_run t 0 is;
         first = ap number is;
         stage = ap (λ (x : Token C). (state x).stage) is;
-        pending = none ∙ ap (λ (x : Token C). queue (state x).pending) (sym is);
-        retired = subst (λ (items : List Retired). AreRetired (client.retires (origin t).config.client) items) (sym none) (All-nil (λ (r : Retired). client.retires (origin t).config.client r.item ≡ true));
+        pending = subst (λ (x : Token C). AreListsOf b.lists (queue (state x).pending)) (sym is) none;
+        retired = subst (λ (x : Token C). AreRetired (client.retires (origin t).config.client) (queue (state x).pending)) (sym is) (All-nil (λ (r : Retired). client.retires (origin t).config.client r.item ≡ true));
       },
       let z : (state t).calls ≡ 0 = ap (λ (x : Token C). (state x).calls) is in omega arith,
     )

@@ -1,17 +1,22 @@
 -- What a poll leaves of the writer's queue.
-use Rattle.std.proofs.Common.{◌≡◌, ℕ, ◌+◌, ◌-◌, ◌%◌, ◌≤◌, Bool, true, false, cond, List, [], ◌++◌, length, length-append, append_assoc, sym, ap, ◌∙◌, subst, refl, arith}
+use Rattle.std.proofs.Common.{◌≡◌, ℕ, ◌+◌, ◌-◌, ◌%◌, ◌<◌, ◌≤◌, Bool, true, false, not, cond, List, [], ◌++◌, length, length-append, append_assoc, sym, ap, ◌∙◌, subst, refl, arith}
+use Rattle.std.proofs.lemmas.List.{map-append, length-map}
+use Rattle.std.proofs.lemmas.List.Elements.{All-filter}
+use Rattle.ck_words.specs.declared.back.Back.{Back}
 use Rattle.ck_run.specs.Tokens.{Table, table, origin}
 use Rattle.ck_epoch.specs.declared.about.About.{About}
 use Rattle.ck_epoch.specs.declared.item.Item.{Item}
 use Rattle.ck_epoch.specs.declared.item.Retired.{Retired}
+use Rattle.ck_epoch.specs.declared.answers.Poll.{Poll}
 use Rattle.ck_epoch.specs.declared.answers.Poll.TheVariants.{Clear, Moved}
 use Rattle.ck_epoch.specs.State.{Token, TokenState, Retirement, on_list, off_list, list_by_list, queue, state}
-use Rattle.ck_epoch.specs.Lists.{Backlog, on, off, by_list, AreRetired}
+use Rattle.ck_epoch.specs.Lists.{Backlog, is_on, on, off, by_list, items_on, in_a_row, homes, AreListsOf, AreRetired}
 use Rattle.ck_epoch.specs.Client.{Client}
-use Rattle.ck_epoch.specs.Ends.{IsWriter}
+use Rattle.ck_epoch.specs.Ends.{Writer, IsWriter}
 use Rattle.ck_epoch.specs.Calls.{gone}
 use Rattle.ck_epoch.specs.Scan.{gone_first, IsDone}
-use Rattle.ck_epoch.proofs.FourLists.{one, on_gone, still_retired, length_by_list, queue_off, queue_on, queue_by_list, queue_behind}
+use Rattle.ck_epoch.proofs.FourLists.{on_gone, length_by_list, queue_off, queue_on, queue_by_list, queue_behind}
+use Rattle.ck_epoch.proofs.Emptying.{IsEmptied, lists_off, row_is}
 
 -- the token's domain is the one that keeps this
 pub config_is : {C : Type 0} (t : Token C) (d now : Table (About C)) (about : About C) → table t ≡ now → d ≡ now → d.origin.config ≡ about → (origin t).config ≡ about
@@ -21,33 +26,37 @@ module _ {C : Type 0} (client : Client C) (t : Token C) (b : Backlog) (inv : IsW
   abbrev pub retires : Item → Bool
   retires = client.retires about.client
 
-  were_retired : AreRetired retires b.pending
-  were_retired = subst (λ (a : About C). AreRetired (client.retires a.client) b.pending) config inv.retired
+  pub were_retired : AreRetired retires (queue (state t).pending)
+  were_retired = subst (λ (a : About C). AreRetired (client.retires a.client) (queue (state t).pending)) config inv.retired
 
   -- after one list was dispatched
-  module _ (list : ℕ) (b' : Backlog) (is : b' ≡ one (client.home about.client) list b) where
-    pub left_retired : AreRetired retires b'.pending
-    left_retired = still_retired (client.home about.client) retires list b b' is were_retired
+  module _ (list : ℕ) where
+    pub left_retired : AreRetired retires (queue (off_list list (state t).pending))
+    left_retired = subst (AreRetired retires) (sym (queue_off list (state t).pending))
+        (All-filter (λ (r : Retired). not (is_on list r)) (λ (r : Retired). retires r.item ≡ true) (queue (state t).pending) were_retired)
 
-    pub left_queue : b'.pending ≡ queue (off_list list (state t).pending)
-    left_queue = ap (λ (x : Backlog). x.pending) is ∙ (ap (off list) inv.pending ∙ sym (queue_off list (state t).pending))
+    module _ (lists : List (List Retired)) (is : IsEmptied list b.lists lists) where
+      pub left_queue : AreListsOf lists (queue (off_list list (state t).pending))
+      left_queue = subst (AreListsOf lists) (sym (queue_off list (state t).pending)) (lists_off list b.lists lists (queue (state t).pending) inv.pending is)
 
-    -- and then another
-    module _ (list' : ℕ) (b'' : Backlog) (is' : b'' ≡ one (client.home about.client) list' b') where
-      pub rest_retired : AreRetired retires b''.pending
-      rest_retired = still_retired (client.home about.client) retires list' b' b'' is' left_retired
+      -- and then another
+      module _ (list' : ℕ) where
+        pub rest_retired : AreRetired retires (queue (off_list list' (off_list list (state t).pending)))
+        rest_retired = subst (AreRetired retires) (sym (queue_off list' (off_list list (state t).pending)))
+            (All-filter (λ (r : Retired). not (is_on list' r)) (λ (r : Retired). retires r.item ≡ true) (queue (off_list list (state t).pending)) left_retired)
 
-      pub rest_queue : b''.pending ≡ queue (off_list list' (off_list list (state t).pending))
-      rest_queue = ap (λ (x : Backlog). x.pending) is' ∙ (ap (off list') left_queue ∙ sym (queue_off list' (off_list list (state t).pending)))
+        pub rest_queue : (lists' : List (List Retired)) → IsEmptied list' lists lists' → AreListsOf lists' (queue (off_list list' (off_list list (state t).pending)))
+        rest_queue lists' is' = subst (AreListsOf lists') (sym (queue_off list' (off_list list (state t).pending))) (lists_off list' lists lists' (queue (off_list list (state t).pending)) left_queue is')
 
   -- the writer between two calls, with what is left
-  pub writer_after : (u : Token C) (e : ℕ) (ks gone : List Retirement) (b' : Backlog) → IsDone client t u e ks gone → (origin u).config ≡ about → b'.pending ≡ queue ks → AreRetired retires b'.pending → IsWriter client u b'
+  pub writer_after : (u : Token C) (e : ℕ) (ks gone : List Retirement) (b' : Backlog) → IsDone client t u e ks gone → (origin u).config ≡ about → AreListsOf b'.lists (queue ks) → AreRetired retires (queue ks) → IsWriter client u b'
   writer_after u e ks gone b' done same pending retired = record {
     part = done.part;
     first = done.first;
     stage = done.stage;
-    pending = pending ∙ ap queue (sym done.pending_is);
-    retired = subst (λ (a : About C). AreRetired (client.retires a.client) b'.pending) (sym same) retired;
+    pending = subst (λ (xs : List Retirement). AreListsOf b'.lists (queue xs)) (sym done.pending_is) pending;
+    retired = subst (λ (xs : List Retirement). AreRetired (client.retires (origin u).config.client) (queue xs)) (sym done.pending_is)
+        (subst (λ (a : About C). AreRetired (client.retires a.client) (queue ks)) (sym same) retired);
   }
 
   pub calls_after : (u : Token C) (e calls : ℕ) (ks gone : List Retirement) → IsDone client t u e ks gone → (state t).calls ≤ calls → (state u).calls ≤ calls + 1
@@ -88,6 +97,52 @@ module _ (e : ℕ) (s : TokenState) where
   gone_all = gone_more (list_by_list (off_list first_list s.pending)) (by_list (off first_list (queue s.pending)))
       (queue_by_list (off_list first_list s.pending) ∙ ap by_list (queue_off first_list s.pending))
 
--- one list and then all others
-pub count_all : (m n : ℕ) (xs ys : List Retired) → m ≡ length xs → n ≡ length ys → m + n ≡ length (xs ++ by_list ys)
-count_all m n xs ys a b = let c = length-append xs (by_list ys) in let d = length_by_list ys in omega arith
+-- What waits, and how many items were dispatched: the list of this number, and then another or all others
+module _ (home : Item → Back) (lists lists' : List (List Retired)) (pending : List Retired) (are : AreListsOf lists pending) (list : ℕ) (low : list < 4) (is : IsEmptied list lists lists') where
+  homes-append : (xs ys : List Retired) → homes home (xs ++ ys) ≡ homes home xs ++ homes home ys
+  homes-append xs ys = map-append (λ (r : Retired). home r.item) xs ys
+
+  left_are : AreListsOf lists' (off list pending)
+  left_are = lists_off list lists lists' pending are is
+
+  module _ (before after : List Back) (first : after ≡ before ++ homes home (items_on lists list)) where
+    pub waits_one : after ≡ before ++ homes home (on list pending)
+    waits_one = first ∙ ap (λ (xs : List Retired). before ++ homes home xs) (are list low)
+
+    waits_more : (last : List Back) (xs ys : List Retired) → last ≡ after ++ homes home xs → xs ≡ ys → last ≡ before ++ homes home (on list pending ++ ys)
+    waits_more last xs ys more same = more ∙ ((λ i. waits_one i ++ homes home (same i)) ∙ (append_assoc before (homes home (on list pending)) (homes home ys) ∙ ap (λ (bs : List Back). before ++ bs) (sym (homes-append (on list pending) ys))))
+
+    pub waits_two : (last : List Back) (list' : ℕ) → list' < 4 → last ≡ after ++ homes home (items_on lists' list') → last ≡ before ++ homes home (on list pending ++ on list' (off list pending))
+    waits_two last list' low' more = waits_more last (items_on lists' list') (on list' (off list pending)) more (left_are list' low')
+
+    pub waits_all : (last : List Back) → last ≡ after ++ homes home (in_a_row lists') → last ≡ before ++ homes home (on list pending ++ by_list (off list pending))
+    waits_all last more = waits_more last (in_a_row lists') (by_list (off list pending)) more (row_is lists' (off list pending) left_are)
+
+  module _ (n : ℕ) (first : n ≡ length (items_on lists list)) where
+    pub count_one : n ≡ length (on list pending)
+    count_one = first ∙ ap length (are list low)
+
+    pub count_two : (m list' : ℕ) → list' < 4 → m ≡ length (items_on lists' list') → n + m ≡ length (on list pending ++ on list' (off list pending))
+    count_two m list' low' more = let a = count_one in let b = more ∙ ap length (left_are list' low') in let c = length-append (on list pending) (on list' (off list pending)) in omega arith
+
+    pub count_all : (m : ℕ) → m ≡ length (in_a_row lists') → n + m ≡ length (on list pending ++ by_list (off list pending))
+    count_all m more = let a = count_one in let b = more ∙ ap length (row_is lists' (off list pending) left_are) in let c = length-append (on list pending) (by_list (off list pending)) in omega arith
+
+-- how many items are pending
+pub row_length : (lists : List (List Retired)) (ks : List Retirement) → AreListsOf lists (queue ks) → length (in_a_row lists) ≡ length ks
+row_length lists ks are = ap length (row_is lists (queue ks) are) ∙ (length_by_list (queue ks) ∙ length-map ks (λ (k : Retirement). k.retired))
+
+-- The same told of the writer and of the domain as contracts see them
+module _ {C F : Type 0} (client : Client C) (about : About C) (d now : Table (About C)) (keeps : d ≡ now) (told : d.origin.config ≡ about) (v : Writer C F) (t : Token C) (waiting : List Back) (e : ℕ) (epoch : (state t).epoch ≡ e) (p : Poll) where
+  about_is : about ≡ now.origin.config
+  about_is = sym told ∙ ap (λ (x : Table (About C)). x.origin.config) keeps
+
+  pub told_waiting : (calls room tally : ℕ) (handler : F) → ◌≡◌ {A = Writer C F} (record { token = t; calls = calls; waiting = waiting; room = room; handler = handler; tally = tally }) v
+      → (after : List Back) → after ≡ waiting ++ homes (client.home about.client) (gone e p (queue (state t).pending)) → after ≡ v.waiting ++ homes (client.home now.origin.config.client) (gone (state v.token).epoch p (queue (state v.token).pending))
+  told_waiting calls room tally handler view after is = is
+      ∙ (ap (λ (n : ℕ). waiting ++ homes (client.home about.client) (gone n p (queue (state t).pending))) (sym epoch)
+      ∙ (ap (λ (a : About C). waiting ++ homes (client.home a.client) (gone (state t).epoch p (queue (state t).pending))) about_is
+      ∙ ap (λ (w : Writer C F). w.waiting ++ homes (client.home now.origin.config.client) (gone (state w.token).epoch p (queue (state w.token).pending))) view))
+
+  pub told_count : (v.token ≡ t) → (n : ℕ) → n ≡ length (gone e p (queue (state t).pending)) → n ≡ length (gone (state v.token).epoch p (queue (state v.token).pending))
+  told_count same n is = is ∙ (ap (λ (k : ℕ). length (gone k p (queue (state t).pending))) (sym epoch) ∙ ap (λ (u : Token C). length (gone (state u).epoch p (queue (state u).pending))) (sym same))

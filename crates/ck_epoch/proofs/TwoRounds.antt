@@ -16,7 +16,7 @@ use Rattle.ck_epoch.specs.State.{base, synchronize, barrier, poll, Task, polling
 use Rattle.ck_epoch.specs.Epochs.{place, IsOpen}
 use Rattle.ck_epoch.specs.Held.{IsScan}
 use Rattle.ck_epoch.specs.Client.{Client, Passes, program}
-use Rattle.ck_epoch.specs.Lists.{Backlog, AreRetired}
+use Rattle.ck_epoch.specs.Lists.{Backlog, AreListsOf, AreRetired}
 use Rattle.ck_epoch.specs.Ends.{IsInRun, IsWriter as IsBetween}
 use Rattle.ck_epoch.specs.Calls.{Looked}
 use Rattle.ck_epoch.specs.Rounds.{wait_steps, IsWait, waits_steps, IsRound, IsWaiting, name_of, after_rounds, Rounds, HaveEnded, IsScanning, ScansOn, IsFree}
@@ -264,11 +264,12 @@ module _ {C : Type 0} (client : Client C) (t : Token C) (b : Backlog) (w : IsBet
     counts_more calls counts = let z : (state u).calls ≡ (state t).calls + 1 = ap (λ (s : TokenState). s.calls) is in omega arith
 
     -- its queue is what its account tells
-    pub writer_after : (c : Backlog) → c.pending ≡ queue (after_rounds all (state t) n).pending → AreRetired (client.retires (origin t).config.client) c.pending → IsBetween client u c
+    pub writer_after : (c : Backlog) → AreListsOf c.lists (queue (after_rounds all (state t) n).pending) → AreRetired (client.retires (origin t).config.client) (queue (after_rounds all (state t) n).pending) → IsBetween client u c
     writer_after c pending retired = record {
       part = part;
       first = number_is ∙ w.first;
       stage = ap (λ (s : TokenState). s.stage) is;
-      pending = pending ∙ ap (λ (s : TokenState). queue s.pending) (sym is);
-      retired = subst (λ (x : Table (About C)). AreRetired (client.retires x.origin.config.client) c.pending) (sym same) retired;
+      pending = subst (λ (s : TokenState). AreListsOf c.lists (queue s.pending)) (sym is) pending;
+      retired = subst (λ (s : TokenState). AreRetired (client.retires (origin u).config.client) (queue s.pending)) (sym is)
+          (subst (λ (x : Table (About C)). AreRetired (client.retires x.origin.config.client) (queue (after_rounds all (state t) n).pending)) (sym same) retired);
     }

@@ -5,7 +5,7 @@ use Rattle.ck_run.specs.Tokens.{number, origin}
 use Rattle.ck_words.specs.declared.back.Back.{Back}
 use Rattle.ck_epoch.specs.declared.about.About.{About}
 use Rattle.ck_epoch.specs.State.{Origin, Token, IsOpening, free, at_depth, queue, state, records_of}
-use Rattle.ck_epoch.specs.Lists.{Backlog, AreRetired}
+use Rattle.ck_epoch.specs.Lists.{Backlog, AreListsOf, AreRetired}
 use Rattle.ck_epoch.specs.Client.{Client, IsClientOpening, program}
 
 -- What contracts see of a writer: its token, how many counted calls were made with it, the answers that wait, how many items and answers
@@ -40,13 +40,13 @@ module _ {C : Type 0} (client : Client C) where
     pub other : number t ≡ suc rec
     pub low : rec < records_of (origin t)
 
-  -- the writer between two calls. The items that its queue has are those that its account tells of
+  -- the writer between two calls. The items on its lists are those that its account tells of
   pub record IsWriter (t : Token C) (b : Backlog) : Type 0 where
     pub part : IsInRun t
     pub first : number t ≡ 0
     pub stage : (state t).stage ≡ free
-    pub pending : b.pending ≡ queue (state t).pending
-    pub retired : AreRetired (client.retires (origin t).config.client) b.pending
+    pub pending : AreListsOf b.lists (queue (state t).pending)
+    pub retired : AreRetired (client.retires (origin t).config.client) (queue (state t).pending)
 
   -- a pass between two calls
   pub record IsPass (t : Token C) (rec depth : ℕ) : Type 0 where

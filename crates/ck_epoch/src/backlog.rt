@@ -1,86 +1,96 @@
 //! The items that are pending, and the answers of the handler that wait for the writer. Only `new` takes memory.
-ghost use Rattle.std.specs.Prelude.{◌≡◌, ◌+◌, ◌<◌, ◌≤◌, ◌^◌, [], ◌∷◌, ◌++◌, length, IfOk};
+ghost use Rattle.std.specs.Prelude.{◌≡◌, ℕ, ◌+◌, ◌<◌, ◌≤◌, ◌^◌, ◌==◌, cond, [], ◌∷◌, ◌++◌, length, vec_len, IfOk, All, Contains};
 ghost use Rattle.std.specs.Option.{MatchOption};
 ghost use Rattle.std.specs.VecDeque.{deque_len, deque_capacity};
 ghost use Rattle.ck_epoch.specs.State.{queue, state};
-ghost use Rattle.ck_epoch.specs.Lists.{on, off, by_list, homes, answered, Answers, AreRetired};
+ghost use Rattle.ck_epoch.specs.Lists.{on, items_on, in_a_row, homes, Answers, AreDispatched};
 
 use crate::about::About;
 use crate::client::Client;
-use crate::item::{Item, Retired};
+use crate::handler::Handler;
+use crate::item::Item;
+use crate::pending::{PendingItem, PendingList};
 use ck_run::Token;
 use ck_words::Back;
 use std::alloc::{AllocError, Global};
 use std::collections::VecDeque;
 use std::marker::Model;
 
-/// What a writer has retired and not yet given back. Contracts see the items that are pending, in order of retirement, the answers
-/// that wait, and how many of both there is room for.
+/// What a writer has retired and not yet given back. Contracts see the four lists of items that are pending, each in order of
+/// retirement, the answers that wait, and how many of both there is room for.
+///
+/// An item stands on the list of its epoch modulo 4. So what a poll dispatches is whole lists, and it touches no other items.
 #[derive(Drop)]
 pub struct Backlog {
-    pending: VecDeque<Retired>,
+    lists: Vec<PendingList>,
     waiting: VecDeque<Back>,
 }
 
 impl Model for Backlog {
-    ghost use Rattle.std.specs.Prelude.{◌≡◌, ◌+◌, ◌≤◌};
     ghost use Rattle.std.specs.VecDeque.{deque_len, deque_capacity};
-    ghost use Rattle.ck_epoch.specs.Lists.{Backlog as BacklogOf};
+    ghost use Rattle.ck_epoch.specs.Lists.{Backlog as BacklogOf, lists_view, HasRoom};
 
     ghost Value = { BacklogOf };
 
-    ghost view = { λ b. record { pending = b.pending.items; waiting = b.waiting.items; room = deque_capacity b.pending } };
+    ghost view = { λ b. record { lists = lists_view b.lists.items; waiting = b.waiting.items; room = deque_capacity b.waiting } };
 
-    ghost invariant = { λ b. (deque_len b.pending + deque_len b.waiting ≤ deque_capacity b.pending) × (deque_capacity b.waiting ≡ deque_capacity b.pending) };
+    ghost invariant = { λ b. HasRoom b.lists (deque_len b.waiting) (deque_capacity b.waiting) };
 }
 
-// Takes the items of one list out, in order of retirement, and puts the handler's answer for each behind those that wait. Answers
-// how many there were.
+// Takes the items of a list out, in order of retirement, and lets the handler's answer for each wait.
 fn dispatch<C: Client, F: Fn(Item) -> Back>(
     client: &C,
-    list: u64,
-    pending: &mut VecDeque<Retired>,
+    token: &Token<About<C>>,
+    list: &mut PendingList,
+    handler: &Handler<F>,
     waiting: &mut VecDeque<Back>,
-    handler: &F,
-) -> u64
+)
     requires handler { Answers (C.meaning.retires client.now) (C.meaning.home client.now) (F.pre handler.now) (F.post handler.now) }
-    requires retired { AreRetired (C.meaning.retires client.now) pending.old.items }
-    requires room { deque_len waiting.old + deque_len pending.old ≤ deque_capacity waiting.old }
-    ensures pending { pending.new.items ≡ off list pending.old.items }
-    ensures waiting { waiting.new.items ≡ waiting.old.items ++ homes (C.meaning.home client.now) (on list pending.old.items) }
-    ensures count { result ≡ length (on list pending.old.items) }
-    ensures lengths { (deque_len pending.new + result ≡ deque_len pending.old) × (deque_len waiting.new ≡ deque_len waiting.old + result) }
-    ensures capacity { (deque_capacity pending.new ≡ deque_capacity pending.old) × (deque_capacity waiting.new ≡ deque_capacity waiting.old) }
+    requires items { AreDispatched (C.meaning.retires client.now) (queue (state token.now).pending) list.old.items }
+    requires room { deque_len waiting.old + length list.old.items ≤ deque_capacity waiting.old }
+    ensures list { list.new ≡ record list.old { items = [] } }
+    ensures waiting { waiting.new.items ≡ waiting.old.items ++ homes (C.meaning.home client.now) list.old.items }
+    ensures len { deque_len waiting.new ≡ deque_len waiting.old + length list.old.items }
+    ensures capacity { deque_capacity waiting.new ≡ deque_capacity waiting.old }
 {
-    let _client = client;
-    let mut dispatched = 0;
-    for _i in 0..pending.len() {
-        let retired = pending.pop_front().unwrap();
-        if retired.epoch % 4 == list {
-            waiting.push_back_reserved(handler(retired.item));
-            dispatched += 1;
-        } else {
-            pending.push_back_reserved(retired);
-        }
+    for _i in 0..list.len() {
+        let item = list.pop();
+        waiting.push_back_reserved(handler.answer(client, token, item));
     }
-    dispatched
+}
+
+// How many lists of pending items there are: an item stands on that of its epoch modulo so many.
+const LISTS: usize = 4;
+
+// Four empty lists, each with room for so many items.
+fn empty_lists(alloc: Global, room: usize) -> Result<Vec<PendingList>, AllocError>
+    ensures count { IfOk result (λ lists. vec_len lists ≡ 4) }
+    ensures each { IfOk result (λ lists. All (λ l. (l.room ≡ room) × (l.items ≡ [])) lists.items) }
+{
+    let mut lists = Vec::with_capacity(alloc, LISTS)?;
+    for _i in 0..LISTS {
+        lists.push_reserved(PendingList::new(alloc, room)?);
+    }
+    Ok(lists)
 }
 
 impl Backlog {
-    /// Room for so many items that are pending and answers that wait.
+    /// Room for so many items that are pending and answers that wait. They may all stand on one list.
     pub(crate) fn new(alloc: Global, room: usize) -> Result<Backlog, AllocError>
-        ensures { IfOk result (λ b. b ≡ record { pending = []; waiting = []; room = room }) }
+        ensures lists { IfOk result (λ b. (list : ℕ) → list < 4 → items_on b.lists list ≡ []) }
+        ensures rest { IfOk result (λ b. (b.waiting ≡ []) × (b.room ≡ room)) }
     {
-        let pending = VecDeque::with_capacity(alloc, room)?;
+        let lists = empty_lists(alloc, room)?;
         let waiting = VecDeque::with_capacity(alloc, room)?;
-        Ok(Backlog { pending, waiting })
+        Ok(Backlog { lists, waiting })
     }
 
     /// How many items are pending.
     pub(crate) fn pending(&self) -> u64
-        ensures { result ≡ length self.now.pending }
+        ensures { result ≡ length (in_a_row self.now.lists) }
     {
-        self.pending.len() as u64
+        let lists = &self.lists;
+        (lists[0].len() + lists[1].len() + lists[2].len() + lists[3].len()) as u64
     }
 
     /// How many answers wait.
@@ -90,78 +100,69 @@ impl Backlog {
         self.waiting.len() as u64
     }
 
-    /// Puts an item that was retired at this epoch behind those that are pending.
-    pub(crate) fn retire(&mut self, item: Item, epoch: u64)
-        requires { length self.old.pending + length self.old.waiting < self.old.room }
-        ensures { self.new ≡ record self.old { pending = self.old.pending ++ record { item = item; epoch = epoch } ∷ [] } }
+    /// Puts an item that was retired at this epoch behind those of its list.
+    pub(crate) fn retire<C>(&mut self, token: &Token<About<C>>, item: Item, epoch: u64)
+        requires pending { Contains (queue (state token.now).pending) (record { item = item; epoch = epoch }) }
+        requires room { length (in_a_row self.old.lists) + length self.old.waiting < self.old.room }
+        ensures lists { (list : ℕ) → list < 4 → items_on self.new.lists list ≡ items_on self.old.lists list ++ on list (record { item = item; epoch = epoch } ∷ []) }
+        ensures rest { (self.new.waiting ≡ self.old.waiting) × (self.new.room ≡ self.old.room) }
     {
-        self.pending.push_back_reserved(Retired { item, epoch });
+        let pending = PendingItem::new(token, item, epoch);
+        self.lists[epoch as usize % LISTS].push(pending);
     }
 
     /// Takes the answer that waits longest.
     pub(crate) fn next_back(&mut self) -> Option<Back>
         ensures oldest { MatchOption result ((self.old.waiting ≡ []) × (self.new.waiting ≡ [])) (λ b. self.old.waiting ≡ b ∷ self.new.waiting) }
-        ensures rest { (self.new.pending ≡ self.old.pending) × (self.new.room ≡ self.old.room) }
+        ensures rest { (self.new.lists ≡ self.old.lists) × (self.new.room ≡ self.old.room) }
     {
         self.waiting.pop_front()
     }
 
-    // Takes the items of one list out, in order of retirement; the handler's answer for each waits. Answers how many.
-    fn hand_out<C: Client, F: Fn(Item) -> Back>(
-        &mut self,
-        client: &C,
-        list: u64,
-        handler: &F,
-    ) -> u64
-        requires handler { Answers (C.meaning.retires client.now) (C.meaning.home client.now) (F.pre handler.now) (F.post handler.now) }
-        requires retired { AreRetired (C.meaning.retires client.now) self.old.pending }
-        ensures backlog { self.new ≡ answered (C.meaning.home client.now) (on list self.old.pending) (off list self.old.pending) self.old }
-        ensures count { result ≡ length (on list self.old.pending) }
-        ensures total { (result + length self.new.pending ≡ length self.old.pending) × (length self.old.pending < 2 ^ 63) }
-    {
-        dispatch(client, list, &mut self.pending, &mut self.waiting, handler)
-    }
-
-    /// Dispatches one list: its items leave in order of retirement, and the handler's answer for each waits. Answers how many. The step
-    /// that dispatches them was made: by the writer's account none of that list is pending any more.
+    /// Dispatches one list: its items leave in order of retirement, and the handler's answer for each waits. Returns how many. The step
+    /// that dispatches them was made: by the writer's account none of these items is pending any more.
     pub(crate) fn dispatch_list<C: Client, F: Fn(Item) -> Back>(
         &mut self,
         client: &C,
         token: &Token<About<C>>,
         list: u64,
-        handler: &F,
+        handler: &Handler<F>,
     ) -> u64
-        requires after { on list (queue (state token.now).pending) ≡ [] }
+        requires list { list < 4 }
+        requires items { AreDispatched (C.meaning.retires client.now) (queue (state token.now).pending) (items_on self.old.lists list) }
         requires handler { Answers (C.meaning.retires client.now) (C.meaning.home client.now) (F.pre handler.now) (F.post handler.now) }
-        requires retired { AreRetired (C.meaning.retires client.now) self.old.pending }
-        ensures backlog { self.new ≡ answered (C.meaning.home client.now) (on list self.old.pending) (off list self.old.pending) self.old }
-        ensures count { result ≡ length (on list self.old.pending) }
-        ensures total { (result + length self.new.pending ≡ length self.old.pending) × (length self.old.pending < 2 ^ 63) }
+        ensures lists { (other : ℕ) → other < 4 → items_on self.new.lists other ≡ cond (other == list) [] (items_on self.old.lists other) }
+        ensures waiting { self.new.waiting ≡ self.old.waiting ++ homes (C.meaning.home client.now) (items_on self.old.lists list) }
+        ensures room { self.new.room ≡ self.old.room }
+        ensures count { result ≡ length (items_on self.old.lists list) }
+        ensures total { (result + length (in_a_row self.new.lists) ≡ length (in_a_row self.old.lists)) × (length (in_a_row self.old.lists) < 2 ^ 63) }
     {
-        let _token = token;
-        self.hand_out(client, list, handler)
+        let items = &mut self.lists[list as usize];
+        let count = items.len() as u64;
+        dispatch(client, token, items, handler, &mut self.waiting);
+        count
     }
 
-    /// Dispatches all lists in order of their numbers, each in order of retirement. Answers how many items that were. The step that
-    /// dispatches them was made: by the writer's account nothing is pending any more.
+    /// Dispatches all lists in order of their numbers, each in order of retirement. Returns how many items that were. The step that
+    /// dispatches them was made: by the writer's account none of them is pending any more.
     pub(crate) fn dispatch_all<C: Client, F: Fn(Item) -> Back>(
         &mut self,
         client: &C,
         token: &Token<About<C>>,
-        handler: &F,
+        handler: &Handler<F>,
     ) -> u64
-        requires after { (state token.now).pending ≡ [] }
+        requires items { (list : ℕ) → list < 4 → AreDispatched (C.meaning.retires client.now) (queue (state token.now).pending) (items_on self.old.lists list) }
         requires handler { Answers (C.meaning.retires client.now) (C.meaning.home client.now) (F.pre handler.now) (F.post handler.now) }
-        requires retired { AreRetired (C.meaning.retires client.now) self.old.pending }
-        ensures backlog { self.new ≡ answered (C.meaning.home client.now) (by_list self.old.pending) [] self.old }
-        ensures count { result ≡ length self.old.pending }
+        ensures lists { (list : ℕ) → list < 4 → items_on self.new.lists list ≡ [] }
+        ensures waiting { self.new.waiting ≡ self.old.waiting ++ homes (C.meaning.home client.now) (in_a_row self.old.lists) }
+        ensures room { self.new.room ≡ self.old.room }
+        ensures count { result ≡ length (in_a_row self.old.lists) }
     {
-        let _token = token;
         let all = self.pending();
-        self.hand_out(client, 0, handler);
-        self.hand_out(client, 1, handler);
-        self.hand_out(client, 2, handler);
-        self.hand_out(client, 3, handler);
+        self.dispatch_list(client, token, 0, handler);
+        self.dispatch_list(client, token, 1, handler);
+        self.dispatch_list(client, token, 2, handler);
+        self.dispatch_list(client, token, 3, handler);
         all
     }
 }

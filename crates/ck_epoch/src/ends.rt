@@ -8,6 +8,7 @@ ghost use Rattle.ck_epoch.specs.Ends.{IsWriting, IsReading};
 use crate::about::About;
 use crate::backlog::Backlog;
 use crate::client::Client;
+use crate::handler::Handler;
 use ck_run::Token;
 use std::marker::Model;
 
@@ -16,7 +17,7 @@ use std::marker::Model;
 pub struct Writer<C: Client, F> {
     pub(crate) token: Token<About<C>>,
     pub(crate) backlog: Backlog,
-    pub(crate) handler: F,
+    pub(crate) handler: Handler<F>,
     pub(crate) calls: u64,
     pub(crate) tally: u64,
 }
@@ -35,13 +36,21 @@ impl<C: Client, F> Model for Writer<C, F> {
 
 /// The token of one record. A thread that has it is a reader.
 #[derive(Drop)]
+#[repr(C)]
 pub struct Pass<C: Client> {
+    // Each section changes `depth` and `calls`. Passes stand side by side, on one stack or in a `Vec`, and each is used by another
+    // thread: without room around them two threads would write to one cache line, and a section would be four times as dear.
+    pub(crate) before: [u64; PAD],
     pub(crate) token: Token<About<C>>,
     pub(crate) rec: u64,
     pub(crate) depth: u64,
     pub(crate) calls: u64,
     pub(crate) tally: u64,
+    pub(crate) after: [u64; PAD],
 }
+
+/// How many unused words stand on each side of a pass: with the next pass's these are two cache lines, `STRIDE` words.
+pub(crate) const PAD: usize = 8;
 
 impl<C: Client> Model for Pass<C> {
     ghost use Rattle.std.specs.Prelude.{◌≤◌};

@@ -6,12 +6,16 @@ mod about;
 mod answers;
 mod backlog;
 mod client;
+#[cfg(test)]
+mod client_tests;
 mod domain;
 mod ends;
+mod handler;
 mod item;
 mod law;
 mod layout;
 mod opening;
+mod pending;
 mod reading;
 #[cfg(test)]
 mod reading_tests;

@@ -10,7 +10,8 @@ use crate::answers::Closed;
 use crate::backlog::Backlog;
 use crate::client::Client;
 use crate::domain::{Calls, Domain};
-use crate::ends::{Pass, Writer};
+use crate::ends::{PAD, Pass, Writer};
+use crate::handler::Handler;
 use crate::item::Item;
 use crate::layout::{FIRST_EPOCH, GLOBAL, base_word, epoch_word};
 use ck_run::{Opening, Token, Words};
@@ -53,11 +54,13 @@ impl<C: Client + Drop> Domain<C> {
         for rec in 0..records {
             let other = words.part(token);
             passes.push_reserved(Pass {
+                before: [0; PAD],
                 token: other,
                 rec,
                 depth: 0,
                 calls: 0,
                 tally: 0,
+                after: [0; PAD],
             });
         }
     }
@@ -92,7 +95,7 @@ impl<C: Client + Drop> Domain<C> {
         let writer = Writer {
             token,
             backlog,
-            handler,
+            handler: Handler::new(handler),
             calls: 0,
             tally: 0,
         };

@@ -97,3 +97,57 @@ fn barrier_waits_for_the_open_section(rt: HostRuntime) -> Result<(), Fail> {
     assert_eq!(rt; given, (1, Some(home(BLOCK)), 1));
     Ok(())
 }
+
+#[test]
+fn synchronize_returns_where_no_section_is_open(rt: HostRuntime) -> Result<(), Fail> {
+    let (domain, mut writer, mut passes) = Domain::new(
+        rt.alloc(),
+        Counter,
+        1,
+        4,
+        |item: Item| home(item),
+    )?;
+    let mut pass = passes.pop().unwrap();
+    domain.call::<Brand, _>(&mut writer, BLOCK);
+    domain.synchronize(&rt, &mut writer);
+    assert_eq!(rt; (writer.pending(), writer.waiting(), writer.calls()), (1, 0, 2));
+    domain.begin(&mut pass);
+    // The global epoch is 6 now, so the first poll dispatches what was retired at 4.
+    assert_eq!(rt; domain.poll(&mut writer), Poll::Moved { n: 1, rec: 0 });
+    assert_eq!(rt;
+        domain.poll(&mut writer),
+        Poll::Blocked {
+            n: 0,
+            rec: 0,
+            epoch: 6
+        }
+    );
+    Ok(())
+}
+
+#[test]
+fn synchronize_waits_for_the_open_section(rt: HostRuntime) -> Result<(), Fail> {
+    let (domain, mut writer, mut passes) = Domain::new(
+        rt.alloc(),
+        Counter,
+        1,
+        4,
+        |item: Item| home(item),
+    )?;
+    let mut pass = passes.pop().unwrap();
+    let inside = AtomicU64::new(0);
+    let over = AtomicU64::new(0);
+    let (_, ended) = join_mut(
+        &rt,
+        &mut || hold_open(&domain, &mut pass, &inside, &over),
+        &mut ||
+            requires writer { (table writer.token ≡ domain) × (writer.calls < 2 ^ 16) }
+        {
+            until_one(&rt, &inside);
+            domain.synchronize(&rt, &mut writer);
+            over.load(SeqCst)
+        },
+    );
+    assert_eq!(rt; ended, 1);
+    Ok(())
+}

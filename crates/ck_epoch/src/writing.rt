@@ -77,7 +77,7 @@ impl<C: Client> Domain<C> {
         ensures part { IsInRun C.meaning writer.new.token }
     {
         let epoch = self.retire::<O, Brand>(&mut writer.token, item);
-        writer.backlog.retire(item, epoch);
+        writer.backlog.retire(&writer.token, item, epoch);
         writer.calls += 1;
     }
 

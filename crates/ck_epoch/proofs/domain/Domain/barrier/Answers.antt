@@ -1,10 +1,13 @@
-use Rattle.std.proofs.Common.{◌≡◌, ◌+◌, ◌++◌, ◌<◌, ◌^◌, true, refl, sym, ap, ◌∙◌, subst}
+use Rattle.std.proofs.Common.{◌≡◌, ◌+◌, [], ◌++◌, ◌<◌, ◌^◌, true, length, refl, sym, ap, ◌∙◌, subst}
 use Rattle.std.proofs.lemmas.List.Elements.{All-nil}
 use Rattle.ck_run.specs.Tokens.{table, origin, number}
 use Rattle.ck_epoch.specs.State.{Token, TokenState, records_of, barrier, state, queue, list_by_list}
 use Rattle.ck_epoch.specs.declared.item.Retired.{Retired}
 use Rattle.ck_epoch.proofs.FourLists.{queue_by_list, queue_behind}
-use Rattle.ck_epoch.specs.Lists.{by_list, Backlog, AreRetired}
+use Rattle.ck_epoch.specs.Lists.{on, by_list}
+use Rattle.ck_epoch.specs.Ends.{Writer}
+use Rattle.ck_epoch.proofs.Emptying.{are_dispatched}
+use Rattle.ck_epoch.proofs.Polled.{config_is, were_retired, row_length}
 use Rattle.ck_epoch.specs.Rounds.{Rounds, HaveEnded}
 use Rattle.ck_epoch.proofs.TwoRounds.{is_free, counts_more, writer_after, have_ended}
 use Rattle.ck_epoch.proofs.domain.Domain.barrier.Goals as goal
@@ -19,8 +22,17 @@ two_rounds-requires-clause-free g c = is_free g.C.Client.meaning c.writer.inside
 pub two_rounds-requires-clause-name : goal.two_rounds-requires-clause-name
 two_rounds-requires-clause-name g c = (true, refl)
 
-pub dispatch_all-requires-clause-after : goal.dispatch_all-requires-clause-after
-dispatch_all-requires-clause-after g c = ap (λ (s : TokenState). s.pending) (c.two_rounds.ensures.state true refl)
+pub dispatch_all-requires-clause-items : goal.dispatch_all-requires-clause-items
+dispatch_all-requires-clause-items g c list low =
+    let meaning = g.C.Client.meaning in
+    let t = c.writer.inside.token in
+    let b = c.writer.inside.backlog in
+    let about = c.self.inside.about in
+    let token_is = ap (λ (v : Writer g.row.C.Denot g.row.F.Denot). v.token) c.writer.view_is in
+    let config = config_is t c.self.inside.words c.args.self.now about (ap table token_is ∙ c.requires.table) c.self.view_is c.self.invariant.told in
+    let u = c.two_rounds.new.token in
+    let none : queue (state u).pending ≡ [] = ap (λ (s : TokenState). queue s.pending) (c.two_rounds.ensures.state true refl) in
+    are_dispatched (meaning.retires about.client) list b.lists (queue (state t).pending) (queue (state u).pending) c.writer.invariant.0.pending low (were_retired meaning t b c.writer.invariant.0 about config) (ap (on list) none)
 
 pub invariant_of-writer : goal.invariant_of-writer
 invariant_of-writer g c =
@@ -30,10 +42,9 @@ invariant_of-writer g c =
     let w = c.writer.invariant.0 in
     let same = ap number (e.steps barrier refl).4 in
     let is = e.state true refl in
-    let none = ap (λ (b : Backlog). b.pending) c.dispatch_all.ensures.backlog in
     let retires = g.C.Client.meaning.retires (origin t).config.client in (
-      writer_after g.C.Client.meaning t c.writer.inside.backlog w u true (state u).steps e.part e.table same is c.dispatch_all.new.self none
-          (subst (AreRetired retires) (sym none) (All-nil (λ (r : Retired). retires r.item ≡ true))),
+      writer_after g.C.Client.meaning t c.writer.inside.backlog w u true (state u).steps e.part e.table same is c.dispatch_all.new.self c.dispatch_all.ensures.lists
+          (All-nil (λ (r : Retired). retires r.item ≡ true)),
       counts_more g.C.Client.meaning t c.writer.inside.backlog w u true (state u).steps e.part e.table same is c.writer.inside.calls c.writer.invariant.1,
     )
 
@@ -66,3 +77,7 @@ returns-clause-dispatched g c = let s = state c.writer.inside.token in
 
 pub returns-clause-epoch : goal.returns-clause-epoch
 returns-clause-epoch g c = ap (λ (s : TokenState). s.epoch) (c.two_rounds.ensures.state true refl) ∙ ap (λ w. (state w.token).epoch + 2) c.writer.view_is
+
+pub returns-clause-count : goal.returns-clause-count
+returns-clause-count g c = c.dispatch_all.ensures.count ∙ (row_length c.writer.inside.backlog.lists (state c.writer.inside.token).pending c.writer.invariant.0.pending
+    ∙ ap (λ w. length (state w.token).pending) c.writer.view_is)

@@ -1,41 +1,50 @@
-use Rattle.std.proofs.Common.{ℕ, ◌-◌, ◌%◌, List, ◌++◌, length, ◌∙◌, sym, ap}
+use Rattle.std.proofs.Common.{◌≡◌, ℕ, ◌+◌, ◌-◌, ◌%◌, ◌<◌, List, ◌++◌, length, ◌∙◌, sym, ap, subst, arith}
 use Rattle.ck_run.specs.Tokens.{table, origin}
 use Rattle.ck_epoch.specs.declared.item.Retired.{Retired}
 use Rattle.ck_epoch.specs.State.{Token, Retirement, queue, off_list, state}
-use Rattle.ck_epoch.specs.Lists.{Backlog, on, off, by_list}
+use Rattle.ck_epoch.specs.Lists.{on, off, homes}
 use Rattle.ck_epoch.specs.declared.answers.Poll.TheVariants.{Clear, Moved, Blocked}
 use Rattle.ck_epoch.specs.Calls.{gone}
 use Rattle.ck_epoch.specs.Ends.{Writer}
-use Rattle.ck_epoch.proofs.Polled.{config_is, none_on, none_on_yet, left_retired, left_queue, rest_retired, rest_queue, writer_after, calls_after, kept_one, kept_two, gone_one, gone_two, gone_all, count_all}
+use Rattle.ck_epoch.proofs.Polled.{config_is, were_retired, none_on, none_on_yet, left_retired, left_queue, rest_retired, rest_queue, writer_after, calls_after, kept_one, kept_two, gone_one, gone_two, gone_all, waits_two, waits_all, count_two, count_all, told_waiting, told_count}
+use Rattle.ck_epoch.proofs.Emptying.{are_dispatched}
 use Rattle.ck_epoch.proofs.domain.Domain.poll.Goals as goal
 
-pub dispatch_list-before-requires-clause-after : goal.dispatch_list-before-requires-clause-after
-dispatch_list-before-requires-clause-after g c =
+pub dispatch_list-before-requires-clause-items : goal.dispatch_list-before-requires-clause-items
+dispatch_list-before-requires-clause-items g c =
+    let meaning = g.C.Client.meaning in
+    let t = c.writer.inside.token in let b = c.writer.inside.backlog in let about = c.self.inside.about in
+    let token_is = ap (λ (v : Writer g.row.C.Denot g.row.F.Denot). v.token) c.writer.view_is in
+    let config = config_is t c.self.inside.words c.args.self.now about (ap table token_is ∙ c.requires.table) c.self.view_is c.self.invariant.told in
     let scanning = c.start_poll-epoch.ensures.scanning in
-    ap (λ (ks : List Retirement). on ((c.start_poll-epoch.result - 2) % 4) (queue ks)) scanning.pending ∙ none_on_yet _ ((c.start_poll-epoch.result - 2) % 4) (state c.writer.inside.token).pending
+    let list = (c.start_poll-epoch.result - 2) % 4 in
+    are_dispatched (meaning.retires about.client) list b.lists (queue (state t).pending) _ c.writer.invariant.0.pending (omega arith) (were_retired meaning t b c.writer.invariant.0 about config)
+    (ap (λ (ks : List Retirement). on list (queue ks)) scanning.pending ∙ none_on_yet _ list (state t).pending)
 
-pub dispatch_list-rest-requires-clause-after : goal.dispatch_list-rest-requires-clause-after
-dispatch_list-rest-requires-clause-after g c =
-    let did = c.in-Current.ensures.outcome c.writer.inside.token c.start_poll-epoch.ensures.scanning in
+pub dispatch_list-rest-requires-clause-items : goal.dispatch_list-rest-requires-clause-items
+dispatch_list-rest-requires-clause-items g c =
+    let meaning = g.C.Client.meaning in
+    let t = c.writer.inside.token in let b = c.writer.inside.backlog in let about = c.self.inside.about in
+    let token_is = ap (λ (v : Writer g.row.C.Denot g.row.F.Denot). v.token) c.writer.view_is in
+    let config = config_is t c.self.inside.words c.args.self.now about (ap table token_is ∙ c.requires.table) c.self.view_is c.self.invariant.told in
+    let did = c.in-Current.ensures.outcome t c.start_poll-epoch.ensures.scanning in
+    let first = (c.start_poll-epoch.result - 2) % 4 in
     let list = (c.start_poll-epoch.result - 1) % 4 in
-    ap (λ (ks : List Retirement). on list (queue ks)) did.1.pending_is ∙ none_on list (off_list ((c.start_poll-epoch.result - 2) % 4) (state c.writer.inside.token).pending)
+    are_dispatched (meaning.retires about.client) list _ (queue (off_list first (state t).pending)) _
+    (left_queue meaning t b c.writer.invariant.0 about config first _ c.dispatch_list-before.ensures.lists) (omega arith) (left_retired meaning t b c.writer.invariant.0 about config first)
+    (ap (λ (ks : List Retirement). on list (queue ks)) did.1.pending_is ∙ none_on list (off_list first (state t).pending))
 
-pub dispatch_all-rest-requires-clause-after : goal.dispatch_all-rest-requires-clause-after
-dispatch_all-rest-requires-clause-after g c = (c.in-Clear.ensures.outcome c.writer.inside.token c.start_poll-epoch.ensures.scanning).1.pending_is
-
-pub dispatch_all-rest-requires-clause-retired : goal.dispatch_all-rest-requires-clause-retired
-dispatch_all-rest-requires-clause-retired g c =
+pub dispatch_all-rest-requires-clause-items : goal.dispatch_all-rest-requires-clause-items
+dispatch_all-rest-requires-clause-items g c list low =
     let meaning = g.C.Client.meaning in
+    let t = c.writer.inside.token in let b = c.writer.inside.backlog in let about = c.self.inside.about in
     let token_is = ap (λ (v : Writer g.row.C.Denot g.row.F.Denot). v.token) c.writer.view_is in
-    let config = config_is c.writer.inside.token c.self.inside.words c.args.self.now c.self.inside.about (ap table token_is ∙ c.requires.table) c.self.view_is c.self.invariant.told in
-    left_retired meaning c.writer.inside.token c.writer.inside.backlog c.writer.invariant.0 c.self.inside.about config _ c.dispatch_list-before.new.self c.dispatch_list-before.ensures.backlog
-
-pub dispatch_list-rest-requires-clause-retired : goal.dispatch_list-rest-requires-clause-retired
-dispatch_list-rest-requires-clause-retired g c =
-    let meaning = g.C.Client.meaning in
-    let token_is = ap (λ (v : Writer g.row.C.Denot g.row.F.Denot). v.token) c.writer.view_is in
-    let config = config_is c.writer.inside.token c.self.inside.words c.args.self.now c.self.inside.about (ap table token_is ∙ c.requires.table) c.self.view_is c.self.invariant.told in
-    left_retired meaning c.writer.inside.token c.writer.inside.backlog c.writer.invariant.0 c.self.inside.about config _ c.dispatch_list-before.new.self c.dispatch_list-before.ensures.backlog
+    let config = config_is t c.self.inside.words c.args.self.now about (ap table token_is ∙ c.requires.table) c.self.view_is c.self.invariant.told in
+    let did = c.in-Clear.ensures.outcome t c.start_poll-epoch.ensures.scanning in
+    let first = (c.start_poll-epoch.result - 2) % 4 in
+    are_dispatched (meaning.retires about.client) list _ (queue (off_list first (state t).pending)) _
+    (left_queue meaning t b c.writer.invariant.0 about config first _ c.dispatch_list-before.ensures.lists) low (left_retired meaning t b c.writer.invariant.0 about config first)
+    (ap (λ (ks : List Retirement). on list (queue ks)) did.1.pending_is)
 
 pub invariant_of-writer-in-Current : goal.invariant_of-writer-in-Current
 invariant_of-writer-in-Current g c =
@@ -44,10 +53,10 @@ invariant_of-writer-in-Current g c =
     let token_is = ap (λ (v : Writer g.row.C.Denot g.row.F.Denot). v.token) c.writer.view_is in
     let config = config_is t c.self.inside.words c.args.self.now about (ap table token_is ∙ c.requires.table) c.self.view_is c.self.invariant.told in
     let did = c.in-Current.ensures.outcome t c.start_poll-epoch.ensures.scanning in
-    let left = c.dispatch_list-before.ensures.backlog in let rest = c.dispatch_list-rest.ensures.backlog in (
+    let left = c.dispatch_list-before.ensures.lists in let rest = c.dispatch_list-rest.ensures.lists in (
       writer_after meaning t b inv about config c.scan.new.token _ _ _ c.dispatch_list-rest.new.self did.1 (ap (λ (x : Token g.row.C.Denot). (origin x).config) did.0.steps ∙ config)
-          (rest_queue meaning t b inv about config _ c.dispatch_list-before.new.self left _ c.dispatch_list-rest.new.self rest)
-          (rest_retired meaning t b inv about config _ c.dispatch_list-before.new.self left _ c.dispatch_list-rest.new.self rest),
+          (rest_queue meaning t b inv about config _ _ left _ _ rest)
+          (rest_retired meaning t b inv about config _ _ left _),
       calls_after meaning t b inv about config c.scan.new.token _ c.writer.inside.calls _ _ did.1 c.writer.invariant.1,
     )
 
@@ -58,23 +67,52 @@ invariant_of-writer-in-Behind g c =
     let token_is = ap (λ (v : Writer g.row.C.Denot g.row.F.Denot). v.token) c.writer.view_is in
     let config = config_is t c.self.inside.words c.args.self.now about (ap table token_is ∙ c.requires.table) c.self.view_is c.self.invariant.told in
     let did = c.in-Behind.ensures.outcome t c.start_poll-epoch.ensures.scanning in
-    let left = c.dispatch_list-before.ensures.backlog in (
+    let left = c.dispatch_list-before.ensures.lists in (
       writer_after meaning t b inv about config c.scan.new.token _ _ _ c.dispatch_list-before.new.self did.1 (ap (λ (x : Token g.row.C.Denot). (origin x).config) did.0.steps ∙ config)
-          (left_queue meaning t b inv about config _ c.dispatch_list-before.new.self left)
-          (left_retired meaning t b inv about config _ c.dispatch_list-before.new.self left),
+          (left_queue meaning t b inv about config _ _ left)
+          (left_retired meaning t b inv about config _),
       calls_after meaning t b inv about config c.scan.new.token _ c.writer.inside.calls _ _ did.1 c.writer.invariant.1,
     )
 
+pub returns-in-Clear-clause-waiting : goal.returns-in-Clear-clause-waiting
+returns-in-Clear-clause-waiting g c =
+    let meaning = g.C.Client.meaning in
+    let t = c.writer.inside.token in let b = c.writer.inside.backlog in let about = c.self.inside.about in
+    let list = (c.start_poll-epoch.result - 2) % 4 in
+    let scanning = c.start_poll-epoch.ensures.scanning in
+    told_waiting {F = g.row.F.Denot} meaning about c.self.inside.words c.args.self.now c.self.view_is c.self.invariant.told c.args.writer.now t b.waiting c.start_poll-epoch.result scanning.epoch.0 (Clear 0)
+    c.writer.inside.calls b.room c.writer.inside.tally c.writer.inside.handler c.writer.view_is _
+    (waits_all (meaning.home about.client) b.lists _ (queue (state t).pending) c.writer.invariant.0.pending list (omega arith) c.dispatch_list-before.ensures.lists b.waiting _ c.dispatch_list-before.ensures.waiting _ c.dispatch_all-rest.ensures.waiting)
+
 pub returns-in-Clear-clause-count : goal.returns-in-Clear-clause-count
 returns-in-Clear-clause-count g c =
-    let t = c.writer.inside.token in let b = c.writer.inside.backlog in let left : Backlog = c.dispatch_list-before.new.self in
-    let e = c.start_poll-epoch.result in
-    let list = (e - 2) % 4 in
-    count_all c.dispatch_list-before.result c.dispatch_all-rest.result (on list b.pending) left.pending c.dispatch_list-before.ensures.count c.dispatch_all-rest.ensures.count
-    ∙ (ap (λ (x : Backlog). length (on list b.pending ++ by_list x.pending)) c.dispatch_list-before.ensures.backlog
-    ∙ (ap (λ (xs : List Retired). length (on list xs ++ by_list (off list xs))) c.writer.invariant.0.pending
-    ∙ (ap (λ (n : ℕ). length (on ((n - 2) % 4) (queue (state t).pending) ++ by_list (off ((n - 2) % 4) (queue (state t).pending)))) (sym c.start_poll-epoch.ensures.scanning.epoch.0)
-    ∙ ap (λ (v : Writer g.row.C.Denot g.row.F.Denot). length (on (((state v.token).epoch - 2) % 4) (queue (state v.token).pending) ++ by_list (off (((state v.token).epoch - 2) % 4) (queue (state v.token).pending)))) c.writer.view_is)))
+    let meaning = g.C.Client.meaning in
+    let t = c.writer.inside.token in let b = c.writer.inside.backlog in let about = c.self.inside.about in
+    let list = (c.start_poll-epoch.result - 2) % 4 in
+    let scanning = c.start_poll-epoch.ensures.scanning in
+    told_count {F = g.row.F.Denot} meaning about c.self.inside.words c.args.self.now c.self.view_is c.self.invariant.told c.args.writer.now t b.waiting c.start_poll-epoch.result scanning.epoch.0 (Clear 0)
+    (ap (λ (v : Writer g.row.C.Denot g.row.F.Denot). v.token) (sym c.writer.view_is)) _
+    (count_all (meaning.home about.client) b.lists _ (queue (state t).pending) c.writer.invariant.0.pending list (omega arith) c.dispatch_list-before.ensures.lists c.dispatch_list-before.result c.dispatch_list-before.ensures.count c.dispatch_all-rest.result c.dispatch_all-rest.ensures.count)
+
+pub returns-in-Current-clause-waiting : goal.returns-in-Current-clause-waiting
+returns-in-Current-clause-waiting g c =
+    let meaning = g.C.Client.meaning in
+    let t = c.writer.inside.token in let b = c.writer.inside.backlog in let about = c.self.inside.about in
+    let list = (c.start_poll-epoch.result - 2) % 4 in
+    let scanning = c.start_poll-epoch.ensures.scanning in
+    told_waiting {F = g.row.F.Denot} meaning about c.self.inside.words c.args.self.now c.self.view_is c.self.invariant.told c.args.writer.now t b.waiting c.start_poll-epoch.result scanning.epoch.0 (Moved 0 0)
+    c.writer.inside.calls b.room c.writer.inside.tally c.writer.inside.handler c.writer.view_is _
+    (waits_two (meaning.home about.client) b.lists _ (queue (state t).pending) c.writer.invariant.0.pending list (omega arith) c.dispatch_list-before.ensures.lists b.waiting _ c.dispatch_list-before.ensures.waiting _ ((c.start_poll-epoch.result - 1) % 4) (omega arith) c.dispatch_list-rest.ensures.waiting)
+
+pub returns-in-Current-clause-count : goal.returns-in-Current-clause-count
+returns-in-Current-clause-count g c =
+    let meaning = g.C.Client.meaning in
+    let t = c.writer.inside.token in let b = c.writer.inside.backlog in let about = c.self.inside.about in
+    let list = (c.start_poll-epoch.result - 2) % 4 in
+    let scanning = c.start_poll-epoch.ensures.scanning in
+    told_count {F = g.row.F.Denot} meaning about c.self.inside.words c.args.self.now c.self.view_is c.self.invariant.told c.args.writer.now t b.waiting c.start_poll-epoch.result scanning.epoch.0 (Moved 0 0)
+    (ap (λ (v : Writer g.row.C.Denot g.row.F.Denot). v.token) (sym c.writer.view_is)) _
+    (count_two (meaning.home about.client) b.lists _ (queue (state t).pending) c.writer.invariant.0.pending list (omega arith) c.dispatch_list-before.ensures.lists c.dispatch_list-before.result c.dispatch_list-before.ensures.count c.dispatch_list-rest.result ((c.start_poll-epoch.result - 1) % 4) (omega arith) c.dispatch_list-rest.ensures.count)
 
 pub returns-in-Current-clause-pending : goal.returns-in-Current-clause-pending
 returns-in-Current-clause-pending g c =
