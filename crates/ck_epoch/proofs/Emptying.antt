@@ -187,5 +187,7 @@ not_on list (p ∷ ps) none = not_on_more list p ps (is_on list p) refl none (no
 pub are_dispatched : (retires : Item → Bool) (list : ℕ) (lists : List (List Retired)) (were pending : List Retired) → AreListsOf lists were → list < 4 → AreRetired retires were → on list pending ≡ []
     → AreDispatched retires pending (items_on lists list)
 are_dispatched retires list lists were pending are low may none = subst (AreDispatched retires pending) (sym (are list low))
-    (λ k d few. (All-filter (is_on list) (λ (r : Retired). retires r.item ≡ true) were may k d few,
-      λ j e short same. let here = filter_passes (is_on list) were k d few in let there = not_on list pending none j e short in let both = ap (is_on list) same in cc))
+    (λ k d few. (
+      All-filter (is_on list) (λ (r : Retired). retires r.item ≡ true) were may k d few,
+      λ j e short same. let here = filter_passes (is_on list) were k d few in let there = not_on list pending none j e short in let both = ap (is_on list) same in cc,
+    ))

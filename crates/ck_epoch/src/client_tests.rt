@@ -102,6 +102,12 @@ fn a_domain_keeps_its_client(rt: HostRuntime) -> Result<(), Fail> {
     )?;
     let client = domain.client();
     assert_eq!(rt; client.start, 9);
-    assert_eq!(rt; (Within::<Board>::base(client), Within::<Board>::inner(client).start), (0, 9));
+    assert_eq!(rt;
+        (
+            Within::<Board>::base(client),
+            Within::<Board>::inner(client).start
+        ),
+        (0, 9)
+    );
     Ok(())
 }

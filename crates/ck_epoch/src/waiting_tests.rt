@@ -110,7 +110,10 @@ fn synchronize_returns_where_no_section_is_open(rt: HostRuntime) -> Result<(), F
     let mut pass = passes.pop().unwrap();
     domain.call::<Brand, _>(&mut writer, BLOCK);
     domain.synchronize(&rt, &mut writer);
-    assert_eq!(rt; (writer.pending(), writer.waiting(), writer.calls()), (1, 0, 2));
+    assert_eq!(rt;
+        (writer.pending(), writer.waiting(), writer.calls()),
+        (1, 0, 2)
+    );
     domain.begin(&mut pass);
     // The global epoch is 6 now, so the first poll dispatches what was retired at 4.
     assert_eq!(rt; domain.poll(&mut writer), Poll::Moved { n: 1, rec: 0 });
