@@ -10,9 +10,9 @@ use Rattle.ck_history.specs.Map.{Map}
 use Rattle.ck_history.specs.Page.{Page}
 use Rattle.ck_snap.specs.declared.version.Version.{Version}
 use Rattle.ck_snap.specs.declared.snapshot.Snapshot.{Snapshot}
-use Rattle.ck_snap.specs.declared.rule.View.{View}
-use Rattle.ck_snap.specs.Log.{Log, capacity, page_after}
-use Rattle.ck_snap.specs.Version.{log_of, last_of, Precedes, Follows, page_with}
+use Rattle.ck_snap.specs.declared.rule.EndView.{EndView}
+use Rattle.ck_snap.specs.Log.{Log, last_of, capacity, page_after}
+use Rattle.ck_snap.specs.Version.{log_of, Precedes, Follows, page_with}
 use Rattle.ck_snap.specs.Copies.{Keeps, Shows, newcomer, seeing, snapshot_of}
 use Rattle.ck_snap.proofs.Prefixes.{prefix_self, prefix_trans}
 use Rattle.ck_snap.proofs.Replying.{map_after-snoc}
@@ -25,21 +25,21 @@ precedes_later None s t p q = tt
 precedes_later (Some u) s t p q = (p.0 ∙ q.0, prefix_trans (log_of u) (log_of s) (log_of t) p.1 q.1)
 
 -- what every end of a list has seen precedes this version
-abbrev All_precede : List View → Version → Type 0
-All_precede views next = (seat : ℕ) (v : View) → get_elem? views seat ≡ some v → Precedes v.seen next
+abbrev All_precede : List EndView → Version → Type 0
+All_precede views next = (seat : ℕ) (v : EndView) → get_elem? views seat ≡ some v → Precedes v.seen next
 
-precede_later : (views : List View) (s t : Version) → All_precede views s → Precedes (Some s) t → All_precede views t
+precede_later : (views : List EndView) (s t : Version) → All_precede views s → Precedes (Some s) t → All_precede views t
 precede_later views s t h up j u e = precedes_later u.seen s t (h j u e) up
 
-precede_set : (views : List View) (seat : ℕ) (w : View) (next : Version) → All_precede views next → Precedes w.seen next → All_precede (set views seat w) next
+precede_set : (views : List EndView) (seat : ℕ) (w : EndView) (next : Version) → All_precede views next → Precedes w.seen next → All_precede (set views seat w) next
 precede_set views seat w next h here j u e =
-    ⊎_elim (λ (t : (j ≡ seat) × (w ≡ u)). subst (λ (z : View). Precedes z.seen next) t.1 here) (λ (t : (j ≢ seat) × (get_elem? views j ≡ some u)). h j u t.1) (at_set views seat j w u e)
+    ⊎_elim (λ (t : (j ≡ seat) × (w ≡ u)). subst (λ (z : EndView). Precedes z.seen next) t.1 here) (λ (t : (j ≢ seat) × (get_elem? views j ≡ some u)). h j u t.1) (at_set views seat j w u e)
 
-precede_snoc : (views : List View) (w : View) (next : Version) → All_precede views next → Precedes w.seen next → All_precede (views ++ w ∷ []) next
-precede_snoc views w next h here j u e = ⊎_elim (h j u) (λ (same : w ≡ u). subst (λ (z : View). Precedes z.seen next) same here) (at_snoc views w u j e)
+precede_snoc : (views : List EndView) (w : EndView) (next : Version) → All_precede views next → Precedes w.seen next → All_precede (views ++ w ∷ []) next
+precede_snoc views w next h here j u e = ⊎_elim (h j u) (λ (same : w ≡ u). subst (λ (z : EndView). Precedes z.seen next) same here) (at_snoc views w u j e)
 
 -- a step after which the copy y is shown, whose version comes after that of x
-turns_to : (seat : ℕ) (v : View) (x y : Snapshot) → Precedes (Some x.version) y.version → (x ≡ snapshot_of x.version → y ≡ snapshot_of y.version)
+turns_to : (seat : ℕ) (v : EndView) (x y : Snapshot) → Precedes (Some x.version) y.version → (x ≡ snapshot_of x.version → y ≡ snapshot_of y.version)
     → TurnsAt (λ x views. Keeps x views) seat v x y (λ v x y w. Shows v y w)
 turns_to seat v x y up fold views h at =
     let later : Precedes v.seen y.version = precedes_later v.seen x.version y.version (h.each seat v at) up in (
@@ -49,7 +49,7 @@ turns_to seat v x y up fold views h at =
     )
 
 -- an enter
-pub enters : (seat : ℕ) (v : View) → Turns (λ x views. Keeps x views) seat v (λ x. x) (λ v x y w. Shows v y w)
+pub enters : (seat : ℕ) (v : EndView) → Turns (λ x views. Keeps x views) seat v (λ x. x) (λ v x y w. Shows v y w)
 enters seat v x = turns_to seat v x x (precedes_self x.version) (λ p. p)
 
 -- a page after one more update
@@ -58,7 +58,7 @@ page_after-append log None = ap page_after (sym (append-nil log))
 page_after-append log (Some e) = let page : Map ℕ → Page ℕ = λ l. record { most = capacity; pairs = l } in ap page (sym (map_after-snoc log e))
 
 -- a publish of a version that follows the one that was shown
-pub publishes : (seat : ℕ) (v : View) (shown : Snapshot) (next : Version) → Follows shown.version next
+pub publishes : (seat : ℕ) (v : EndView) (shown : Snapshot) (next : Version) → Follows shown.version next
     → TurnsAt (λ x views. Keeps x views) seat v shown (record { book = page_with shown.book next.last; version = next }) (λ v x y w. Shows v y w)
 publishes seat v shown next follows =
     let up : Precedes (Some shown.version) next = (sym follows.0, (last_of next.last, ap (λ l. l ++ last_of next.last) (sym follows.1))) in
@@ -74,13 +74,13 @@ pub admits : Admits (λ (x : Snapshot) views. Keeps x views) newcomer
 admits x views h = record { fold = h.fold; each = precede_snoc views newcomer x.version h.each tt }
 
 -- what the writer knows is cut in two ..
-pub forks : (seat : ℕ) (v : View) → Forks (λ (x : Snapshot) views. Keeps x views) seat v v v
+pub forks : (seat : ℕ) (v : EndView) → Forks (λ (x : Snapshot) views. Keeps x views) seat v v v
 forks seat v x views h at =
     let here = h.each seat v at in record { fold = h.fold; each = precede_snoc (set views seat v) v x.version (precede_set views seat v x.version h.each here) here }
 
 -- .. for a reader that has made as many enters as before
-pub merges : (seat : ℕ) (v : View) (other : ℕ) (w : View) → Merges (λ (x : Snapshot) views. Keeps x views) seat v other w (record { enters = v.enters; seen = w.seen }) newcomer
+pub merges : (seat : ℕ) (v : EndView) (other : ℕ) (w : EndView) → Merges (λ (x : Snapshot) views. Keeps x views) seat v other w (record { enters = v.enters; seen = w.seen }) newcomer
 merges seat v other w x views h at apart there =
-    let both : View = record { enters = v.enters; seen = w.seen } in
+    let both : EndView = record { enters = v.enters; seen = w.seen } in
     let known : Precedes w.seen x.version = ⊎_elim (λ (t : (other ≡ seat) × (both ≡ w)). absurd (apart t.0)) (λ (t : (other ≢ seat) × (get_elem? views other ≡ some w)). h.each other w t.1) (at_set views seat other both w there) in
     record { fold = h.fold; each = precede_set (set views seat both) other newcomer x.version (precede_set views seat both x.version h.each known) tt }

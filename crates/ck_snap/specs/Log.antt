@@ -1,5 +1,5 @@
 -- The log of a dictionary, and the map after it.
-use Rattle.std.specs.Prelude.{◌≡◌, ℕ, List, [], map}
+use Rattle.std.specs.Prelude.{◌≡◌, ℕ, List, [], ◌∷◌, Option, Some, None, map}
 use Rattle.std.specs.Ordering.{nat_cmp}
 use Rattle.ck_history.specs.declared.log.LogEntry.{LogEntry}
 use Rattle.ck_history.specs.declared.update.Update.{Update}
@@ -9,6 +9,11 @@ use Rattle.ck_history.specs.Page.{Page}
 -- answered updates with their replies, in order
 abbrev pub Log : Type 0
 Log = List (LogEntry ℕ)
+
+-- the log of one entry, or of none
+abbrev pub last_of : Option (LogEntry ℕ) → Log
+last_of None = []
+last_of (Some e) = e ∷ []
 
 abbrev pub updates : Log → List (Update ℕ)
 updates log = map (λ e. e.update) log

@@ -14,10 +14,12 @@ published p = p.writer.desk.shown.value.version
 abbrev pub published_by : Inside → LogPart
 published_by p = record { book = book_of (published p); log = log_of (published p) }
 
--- the published copy is the map of its version, its version is the publisher's, and nothing is pending
+-- the published copy is the map of its version, its version is the publisher's, the end of the log has what that version has
+-- settled, and nothing is pending
 pub record IsPublisher (p : Inside) : Type 0 where
   pub fold : p.writer.desk.shown.value ≡ snapshot_of (published p)
   pub log : log_of p.version ≡ log_of (published p)
   pub book : book_of p.version ≡ book_of (published p)
   pub knows : (view p.writer.desk.place).seen ≡ Some (published p)
+  pub whole : p.end ≡ p.version.prefix
   pub settled : drop p.writer.behind p.writer.log.items ≡ []

@@ -1,5 +1,5 @@
 -- Versions of the map: the part of the log that each comes from.
-use Rattle.std.specs.Prelude.{◌≡◌, ℕ, [], ◌∷◌, ◌++◌, Option, Some, None}
+use Rattle.std.specs.Prelude.{◌≡◌, ℕ, ◌++◌, Option, Some, None}
 use mathlib.Core.List.{IsPrefix}
 use Rattle.std.specs.Ordering.{nat_cmp}
 use Rattle.logbook.specs.Pages.{Book}
@@ -7,11 +7,7 @@ use Rattle.ck_history.specs.declared.log.LogEntry.{LogEntry}
 use Rattle.ck_history.specs.Map.{step}
 use Rattle.ck_history.specs.Page.{Page}
 use Rattle.ck_snap.specs.declared.version.Version.{Version}
-use Rattle.ck_snap.specs.Log.{Log}
-
-abbrev pub last_of : Option (LogEntry ℕ) → Log
-last_of None = []
-last_of (Some e) = e ∷ []
+use Rattle.ck_snap.specs.Log.{Log, last_of}
 
 abbrev pub log_of : Version → Log
 log_of v = v.prefix.log ++ last_of v.last

@@ -2,8 +2,8 @@
 //! After `tie` a pass has seen the writer's whole log, so that each of its answers is the map's after some number of these updates.
 #![tactic(auto)]
 
-mod history;
 mod journal;
+mod log;
 mod opening;
 mod publisher;
 mod reading;

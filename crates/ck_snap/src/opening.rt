@@ -23,9 +23,9 @@ impl Snap {
         ensures passes { IfOk result (λ r. (vec_len r.2 ≡ readers) × AreFresh r.0 0 r.2.items) }
     {
         let (journals, mut journal) = Journals::new(alloc)?;
-        let (mut publisher, length) = Publisher::new(rt, alloc, readers)?;
+        let (mut publisher, log) = Publisher::new(rt, alloc, readers)?;
         let snap = Snap {
-            length,
+            log,
             journals,
             readers,
         };

@@ -4,12 +4,12 @@ ghost use Rattle.std.specs.Ordering.{nat_cmp};
 ghost use Rattle.left_right.specs.Sides.{view};
 ghost use Rattle.ck_history.specs.Map.{step};
 ghost use Rattle.ck_snap.specs.Growing.{LogPart};
-ghost use Rattle.ck_snap.specs.Log.{capacity, map_after};
-ghost use Rattle.ck_snap.specs.Version.{log_of, last_of, book_of, Follows};
+ghost use Rattle.ck_snap.specs.Log.{capacity, map_after, last_of};
+ghost use Rattle.ck_snap.specs.Version.{log_of, book_of, Follows};
 ghost use Rattle.ck_snap.specs.Copies.{snapshot_of, Known};
 
-use crate::history::Length;
-use crate::rule::{Folds, Passes, Sees, View};
+use crate::log::{LogEnd, LogWord};
+use crate::rule::{EndView, Folds, Passes, Sees};
 use crate::snapshot::Snapshot;
 use crate::subscriber::Subscriber;
 use crate::version::Version;
@@ -23,13 +23,15 @@ use std::sync::Wait;
 /// The most pairs of a dictionary.
 const CAPACITY: u64 = 65_536;
 
-pub type CopyWriter = Writer<Snapshot, Version, View, Folds>;
+pub type CopyWriter = Writer<Snapshot, Version, EndView, Folds>;
 
 /// Publishes version after version. Contracts see what is published. It isn't `Drop`: end it by `finish`.
 pub struct Publisher {
     writer: CopyWriter,
     /// The published version, or the same one settled.
     version: Version,
+    /// The end of the log, which has what that version has settled.
+    end: LogEnd,
 }
 
 impl Model for Publisher {
@@ -83,12 +85,15 @@ impl Publisher {
         rt: &R,
         alloc: Global,
         readers: u64,
-    ) -> Result<(Publisher, Length), AllocError>
+    ) -> Result<(Publisher, LogWord), AllocError>
         requires { (1 ≤ readers) × (readers ≤ 64) }
         ensures { IfOk result (λ r. r.0 ≡ record { book = r.1; log = [] }) }
     {
-        let (word, prefix) = Length::new();
-        let version = Version { prefix, last: None };
+        let (word, end) = LogWord::new(rt);
+        let version = Version {
+            prefix: end.prefix(),
+            last: None,
+        };
         let first = empty(alloc, &version)?;
         let second = empty(alloc, &version)?;
         let mut writer: CopyWriter = Writer::new(alloc, first, second, readers as usize)?;
@@ -96,8 +101,14 @@ impl Publisher {
             drop(writer.take(rt));
             return Err(AllocError);
         }
+        // Only a publish tells the writer which version readers take, and so which log a new reader learns of.
         let (writer, ()) = publish_in(rt, writer, &version);
-        Ok((Publisher { writer, version }, word))
+        let publisher = Publisher {
+            writer,
+            version,
+            end,
+        };
+        Ok((publisher, word))
     }
 
     /// A reader that has seen what is published.
@@ -129,7 +140,7 @@ impl Publisher {
     pub fn update<R: Wait>(
         &mut self,
         rt: &R,
-        word: &Length,
+        word: &LogWord,
         update: &Update<Key>,
     ) -> Result<Reply, AllocError>
         requires book { self.old.book ≡ word.now }
@@ -151,7 +162,7 @@ impl Publisher {
     pub fn publish<R: Wait>(
         &mut self,
         rt: &R,
-        word: &Length,
+        word: &LogWord,
         last: Option<LogEntry<Key>>,
     ) -> Result<(), AllocError>
         requires book { self.old.book ≡ word.now }
@@ -159,7 +170,9 @@ impl Publisher {
         ensures ok { OnOk result (self.new ≡ record self.old { log = self.old.log ++ last_of last }) }
         ensures err { OnErr result (self.new ≡ self.old) }
     {
-        self.version.settle(word)?;
+        // The update that is published already goes into the log first. From here on only the queue may want memory, and where it does
+        // nothing of this call has been done.
+        self.version.settle(word, &mut self.end);
         let prefix = self.version.prefix.again();
         let next = Version { prefix, last };
         if self.writer.append(next.again()).is_err() {
@@ -175,6 +188,7 @@ impl Publisher {
         let Publisher {
             writer,
             version: _version,
+            end: _end,
         } = self;
         drop(writer.take(rt));
     }

@@ -5,14 +5,14 @@ use atomic_table::{Join, Split};
 use crossbeam_utils::rule::{Outcome, Protocol};
 
 /// What an end of the two copies knows: how often it entered or published, and the version that it saw then. No value of it is made.
-pub struct View {
+pub struct EndView {
     pub enters: u64,
     pub seen: Option<Version>,
 }
 
 pub struct Folds;
 
-impl Protocol<Snapshot, View> for Folds {
+impl Protocol<Snapshot, EndView> for Folds {
     ghost use Rattle.ck_snap.specs.Copies.{Keeps, newcomer};
 
     ghost holds = { λ x views. Keeps x views };
@@ -23,7 +23,7 @@ impl Protocol<Snapshot, View> for Folds {
 /// A ruled enter or a ruled publish: the version that is shown after it has been seen, and it comes after what was seen before.
 pub struct Sees;
 
-impl Outcome<Snapshot, View> for Sees {
+impl Outcome<Snapshot, EndView> for Sees {
     ghost use Rattle.ck_snap.specs.Copies.{Shows};
 
     ghost then = { λ v x y w. Shows v y w };
@@ -32,13 +32,13 @@ impl Outcome<Snapshot, View> for Sees {
 /// A new reader learns what the writer knows.
 pub struct Passes;
 
-impl Split<View> for Passes {
+impl Split<EndView> for Passes {
     ghost left = { λ v. v };
 
     ghost right = { λ v. v };
 }
 
-impl Join<View> for Passes {
+impl Join<EndView> for Passes {
     ghost use Rattle.ck_snap.specs.Copies.{newcomer};
 
     ghost both = { λ v w. record { enters = v.enters; seen = w.seen } };

@@ -8,7 +8,7 @@ ghost use Rattle.ck_snap.specs.Log.{map_after};
 ghost use Rattle.ck_snap.specs.Version.{log_of, book_of, Precedes};
 ghost use Rattle.ck_snap.specs.Copies.{Known, Shows, seeing};
 
-use crate::rule::{Folds, Sees, View};
+use crate::rule::{EndView, Folds, Sees};
 use crate::snapshot::Snapshot;
 use crate::version::Version;
 use ck_history::Key;
@@ -18,9 +18,9 @@ use left_right::reader::{Reader, Reading};
 use std::marker::Model;
 use std::sync::Wait;
 
-pub type CopyReader = Reader<Snapshot, View, Folds>;
+pub type CopyReader = Reader<Snapshot, EndView, Folds>;
 
-pub type CopyReading = Reading<Snapshot, View, Folds>;
+pub type CopyReading = Reading<Snapshot, EndView, Folds>;
 
 /// Sees version after version.
 #[derive(Drop)]
@@ -50,7 +50,7 @@ fn enter_in<R: Wait>(rt: &R, reader: CopyReader) -> CopyReading
     for _ in rt.forever() {
         match reader.enter_as::<Sees>() {
             Ok(reading) => return reading,
-            Err(back) => reader = back,
+            Err(back) => reader = back, // the writer is gone
         }
         backoff.snooze();
     }
@@ -139,6 +139,7 @@ impl Subscriber {
         let backoff = Backoff::new();
         for _ in rt.forever() {
             self.see(rt);
+            // Of two prefixes of one log the shorter is a prefix of the longer, so two that are as long are one.
             if self.version().agrees(version) {
                 return;
             }

@@ -1,6 +1,6 @@
 //! The dictionary, its writer and its passes.
-use crate::history::Length;
 use crate::journal::{Journal, Journals};
+use crate::log::LogWord;
 use crate::publisher::Publisher;
 use crate::subscriber::Subscriber;
 use std::marker::Model;
@@ -8,7 +8,7 @@ use std::marker::Model;
 /// A dictionary of at most 65,536 pairs for one writer and up to 64 readers.
 #[derive(Drop)]
 pub struct Snap {
-    pub(crate) length: Length,
+    pub(crate) log: LogWord,
     pub(crate) journals: Journals,
     pub(crate) readers: u64,
 }
@@ -18,7 +18,7 @@ impl Model for Snap {
 
     ghost Value = { Dictionary };
 
-    ghost view = { λ s. record { origin = record { log = s.length; journals = s.journals }; readers = s.readers } };
+    ghost view = { λ s. record { origin = record { log = s.log; journals = s.journals }; readers = s.readers } };
 }
 
 /// The token that updates. It isn't `Drop`: end it by `finish`, as a writer of `left_right` by `take`.

@@ -19,7 +19,8 @@ impl Snap {
         ensures ok { OnOk result (IsTied w.old pass.old w.new pass.new) }
         ensures err { OnErr result ((w.new ≡ w.old) × (pass.new ≡ pass.old)) }
     {
-        w.publisher.publish(rt, &self.length, None)?;
+        // This publish puts the last update into the log, so that the pass can see a version that is in the log whole.
+        w.publisher.publish(rt, &self.log, None)?;
         pass.subscriber.catch_up(rt, w.publisher.version());
         w.calls += 1;
         pass.calls += 1;

@@ -1,10 +1,9 @@
 //! Which version of the map a copy is.
-ghost use Rattle.std.specs.Prelude.{◌≡◌, ◌≤◌, ◌^◌, length, ◌↔◌, IsTrue, None, OnOk, OnErr};
+ghost use Rattle.std.specs.Prelude.{◌≡◌, ◌≤◌, ◌^◌, length, ◌↔◌, IsTrue, None};
 ghost use Rattle.ck_snap.specs.Version.{log_of, book_of};
 
-use crate::history::{Length, Prefix};
+use crate::log::{LogEnd, LogWord, Prefix};
 use ck_history::{Key, LogEntry};
-use std::alloc::AllocError;
 
 /// The part of the log that a version comes from: a prefix of it, and perhaps one update more. Such an update is answered,
 /// and is put into the log before the next version.
@@ -34,18 +33,20 @@ impl Version {
         }
     }
 
-    /// The same version, with its last update in the log. `Err` where the shared word isn't the log's length, which no call lets be.
-    pub fn settle(&mut self, word: &Length) -> Result<(), AllocError>
+    /// The same version, with its last update in the log.
+    pub fn settle(&mut self, word: &LogWord, end: &mut LogEnd)
+        requires end { end.old ≡ self.old.prefix }
         requires book { book_of self.old ≡ word.now }
         requires room { length (log_of self.old) ≤ 2 ^ 62 }
         ensures same { (book_of self.new ≡ book_of self.old) × (log_of self.new ≡ log_of self.old) }
-        ensures settled { OnOk result (self.new.last ≡ None) }
+        ensures settled { self.new.last ≡ None }
+        ensures end { end.new ≡ self.new.prefix }
     {
         if let Some(entry) = self.last {
-            self.prefix = self.prefix.with(word, &entry).ok_or(AllocError)?;
+            end.add(word, &entry);
+            self.prefix = end.prefix();
             self.last = None;
         }
-        Ok(())
     }
 
     /// Whether both are in the log whole, and as long. Then they come from the same updates.

@@ -11,8 +11,7 @@ use std::alloc::{AllocError, Global};
 use std::sync::Wait;
 
 impl Snap {
-    /// Adds the pair or replaces the key's value, and publishes that. An `AllocError` changes nothing. It comes for want of memory,
-    /// or where the log's shared word isn't its length, which no call lets be.
+    /// Adds the pair or replaces the key's value, and publishes that. An `AllocError` comes for want of memory alone, and changes nothing.
     pub fn set<R: Wait>(
         &self,
         rt: &R,
@@ -76,7 +75,7 @@ impl Snap {
         ensures ok { IfOk result (HasUpdated w.old update w.new) }
         ensures err { OnErr result (w.new ≡ w.old) }
     {
-        let reply = w.publisher.update(rt, &self.length, &update)?;
+        let reply = w.publisher.update(rt, &self.log, &update)?;
         self.journals.note_update(&mut w.journal, &update, reply);
         w.calls += 1;
         Ok(reply)

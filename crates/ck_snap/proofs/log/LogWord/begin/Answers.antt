@@ -1,0 +1,16 @@
+use Rattle.std.proofs.Common.{sym, ◌∙◌, ap}
+use Rattle.ck_snap.proofs.Adding.{begin_moves}
+use Rattle.ck_snap.proofs.log.LogWord.begin.Goals as goal
+
+pub compare_exchange-found-requires : goal.compare_exchange-found-requires
+compare_exchange-found-requires g c =
+    let word = c.self.invariant in
+    let offer = c.plain-offer.ensures in
+    let pen = c.no_pen-none.ensures in
+    let book = ap (λ s. s.book) c.again-known.ensures ∙ (c.requires ∙ sym c.self.view_is) in (
+      ap (λ w. w.tracked) word,
+      book,
+      pen.0 ∙ book,
+      offer.0,
+      rw (ap (λ w. w.key) word, pen.1, offer.3) (begin_moves c.again-known.result.log c.plain-offer.result.ask),
+    )
