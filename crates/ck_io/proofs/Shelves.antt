@@ -11,6 +11,7 @@ use Rattle.std.proofs.lemmas.List.{get_or-replicate, length-map, length-take, le
 use Rattle.ck_io.specs.declared.shelf.ShelfError.{ShelfError}
 use Rattle.ck_io.specs.declared.shelf.ShelfError.TheVariants.{Failed, TooLong, Memory}
 use Rattle.ck_io.specs.Faults.{next, NeverFall}
+use Rattle.ck_io.specs.Shelf.{IsUnfailed}
 use Rattle.ck_io.specs.MemShelf.{ShelfState, contents, place, bytes_under, padded, faults_of, shelf_after, fetch_fails}
 
 -- how many pass from the front on, among the images
@@ -70,6 +71,14 @@ shelf_after-lasting shelf name (Err Failed) fits q =
     set-lasting shelf.counts (place shelf.files name) (place shelf.files q) (next (faults_of shelf name)) (omega (arith, fits refl))
 shelf_after-lasting shelf name (Err (TooLong _)) fits q = omega arith
 shelf_after-lasting shelf name (Err Memory) fits q = omega arith
+
+-- no answer but `Failed` changes a count
+pub shelf_after-uncounted : {T : Type 0} (shelf : ShelfState) (name : List ℕ) (result : Result T ShelfError) → IsUnfailed result
+    → faults_of (shelf_after shelf name result) ≡ faults_of shelf
+shelf_after-uncounted shelf name (Ok _) unfailed = refl
+shelf_after-uncounted shelf name (Err Failed) unfailed = absurd unfailed
+shelf_after-uncounted shelf name (Err (TooLong _)) unfailed = refl
+shelf_after-uncounted shelf name (Err Memory) unfailed = refl
 
 -- counts that are as many as they should be need no padding
 pub padded-whole : (n : ℕ) (counts : List ℕ) → length counts ≡ n → padded n counts ≡ counts

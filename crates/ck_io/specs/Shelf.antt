@@ -24,3 +24,10 @@ IsSettled (Ok _) = ⊤
 IsSettled (Err Failed) = ⊥
 IsSettled (Err (TooLong _)) = ⊤
 IsSettled (Err Memory) = ⊥
+
+-- the answer isn't `Failed`: it is the bytes, `TooLong` or want of memory
+abbrev pub IsUnfailed : {T : Type 0} → Result T ShelfError → Type 0
+IsUnfailed (Ok _) = ⊤
+IsUnfailed (Err Failed) = ⊥
+IsUnfailed (Err (TooLong _)) = ⊤
+IsUnfailed (Err Memory) = ⊤

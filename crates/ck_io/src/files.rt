@@ -3,7 +3,7 @@ ghost use Rattle.std.specs.Prelude.{◌≡◌, ◌≤◌, None, IfOk, IfErr, IfS
 ghost use Rattle.ck_io.specs.Shelf.{HasCause};
 
 use crate::{Shelf, ShelfError};
-use std::alloc::Global;
+use std::alloc::{AllocError, Global};
 use std::fs;
 use std::fs::OpenFile;
 use std::io::{ErrorKind, Read};
@@ -42,6 +42,13 @@ impl<'a, R: Files> FileShelf<'a, R> {
     }
 }
 
+/// This many bytes that are 0.
+fn zeros(alloc: Global, count: usize) -> Result<Vec<u8>, AllocError>
+    ensures { IfOk result (λ bytes. vec_len bytes ≡ count) }
+{
+    vec![in alloc; 0u8; count]
+}
+
 /// Reads all that a reader has left, if that is at most `limit` bytes: it stops at one byte more. `size` is how many
 /// bytes to make room for at once.
 pub(crate) fn read_all<F: Read>(
@@ -57,7 +64,9 @@ pub(crate) fn read_all<F: Read>(
 {
     let most = limit.saturating_add(1);
     let mut bytes = Vec::with_capacity(alloc, size.min(limit) as usize)?;
-    let mut piece = [0u8; PIECE];
+    // Made once, and not on the stack: the least stack that a program may be given has no room for a piece.
+    let mut room = zeros(alloc, PIECE)?;
+    let piece = room.as_mut_slice();
     'reads: for _ in 0..u64::MAX {
         let left = most - bytes.len() as u64;
         let wanted = left.min(PIECE as u64) as usize;

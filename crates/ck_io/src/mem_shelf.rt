@@ -1,7 +1,7 @@
 //! A shelf in memory, which fails where it is told to.
 ghost use Rattle.std.specs.Prelude.{◌≡◌, ℕ, ◌≤◌, ◌<◌, ◌↔◌, ◌++◌, [], ◌∷◌, List, length, replicate, OnOk, OnErr, IfOk, IfErr, IfSome, vec_len, string_bytes, bytes_eq, position, slice_index, ◌^◌};
 ghost use Rattle.ck_io.specs.Faults.{NeverFall};
-ghost use Rattle.ck_io.specs.Shelf.{HasCause, IsSettled, IsTooLong};
+ghost use Rattle.ck_io.specs.Shelf.{HasCause, IsSettled, IsTooLong, IsUnfailed};
 ghost use Rattle.ck_io.specs.MemShelf.{Gives, bytes_under, faults_of, fetch_fails, FailsExactlyWhere, shelf_after, contents, padded, place, raised};
 
 use crate::{Shelf, ShelfError};
@@ -140,6 +140,7 @@ impl Shelf for MemShelf {
             IsSettled result → (IsTooLong result ↔ (limit < length told))) }
         ensures unchanged { bytes_under self.new.files ≡ bytes_under self.old.files }
         ensures lasting { NeverFall (faults_of self.old) (faults_of self.new) }
+        ensures uncounted { IsUnfailed result → faults_of self.new ≡ faults_of self.old }
 
         // Every answer but want of memory, and the shelf after it.
         ensures fails { FailsExactlyWhere (fetch_fails self.old name.now) result }

@@ -2,7 +2,7 @@
 ghost use Rattle.std.specs.Prelude.{◌≡◌, ℕ, ◌≤◌, ◌<◌, ◌↔◌, List, length, Option, IfOk, IfErr, IfSome, vec_len};
 ghost use Rattle.ck_io.specs.declared.shelf.ShelfError.TheVariants.{Memory};
 ghost use Rattle.ck_io.specs.Faults.{NeverFall};
-ghost use Rattle.ck_io.specs.Shelf.{HasCause, IsSettled, IsTooLong};
+ghost use Rattle.ck_io.specs.Shelf.{HasCause, IsSettled, IsTooLong, IsUnfailed};
 
 use std::alloc::{AllocError, Global};
 use std::error::Error;
@@ -59,7 +59,9 @@ pub trait Shelf {
         ensures too_long { IfSome (held self.old name.now) (λ told.
             IsSettled result → (IsTooLong result ↔ (limit < length told))) }
 
-        // No call changes what is held, and no count falls.
+        // No call changes what is held, no count falls, and no answer but `Failed` raises one: want of memory leaves the
+        // shelf's counts as they were.
         ensures unchanged { held self.new ≡ held self.old }
-        ensures lasting { NeverFall (faults self.old) (faults self.new) };
+        ensures lasting { NeverFall (faults self.old) (faults self.new) }
+        ensures uncounted { IsUnfailed result → faults self.new ≡ faults self.old };
 }

@@ -158,21 +158,24 @@ fn a_whole_text(rt: HostRuntime) -> Result<(), Fail> {
 }
 
 const OF_FILES: &[Fetch] = &[
-    ("short.txt", 9, Ok(b"set 7 10\n")),
-    ("short.txt", u64::MAX, Ok(b"set 7 10\n")),
-    ("short.txt", 8, Err(ShelfError::TooLong { bytes: 9 })),
-    ("empty.txt", 0, Ok(b"")),
-    ("missing.txt", 9, FAILED),
+    ("files.test/short", 9, Ok(b"set 7 10\n")),
+    ("files.test/short", u64::MAX, Ok(b"set 7 10\n")),
+    ("files.test/short", 8, Err(ShelfError::TooLong { bytes: 9 })),
+    ("files.test/empty", 0, Ok(b"")),
+    ("files.test/missing", 9, FAILED),
     (".", 9, FAILED),
     ("", 9, FAILED),
 ];
 
 #[test]
 fn real_files(rt: HostRuntime) -> Result<(), Fail> {
-    fs::write(&rt, "short.txt", "set 7 10\n")?;
-    fs::write(&rt, "empty.txt", "")?;
+    fs::create_dir_all(&rt, "files.test")?;
+    fs::write(&rt, "files.test/short", "set 7 10\n")?;
+    fs::write(&rt, "files.test/empty", "")?;
     let mut shelf = FileShelf::new(&rt);
-    assert_eq!(rt; fetches(&mut shelf, rt.alloc(), OF_FILES), OF_FILES.len());
+    let right = fetches(&mut shelf, rt.alloc(), OF_FILES);
+    fs::remove_dir_all(&rt, "files.test")?;
+    assert_eq!(rt; right, OF_FILES.len());
     Ok(())
 }
 
@@ -180,11 +183,14 @@ fn real_files(rt: HostRuntime) -> Result<(), Fail> {
 fn a_long_file(rt: HostRuntime) -> Result<(), Fail> {
     let alloc = rt.alloc();
     let long = vec![in alloc; 7; 131_073]?;
-    fs::write(&rt, "long.txt", &long)?;
+    fs::create_dir_all(&rt, "long.test")?;
+    fs::write(&rt, "long.test/long", &long)?;
     let mut shelf = FileShelf::new(&rt);
-    let bytes = shelf.fetch(alloc, "long.txt", 131_073).ok().ok_or("long")?;
+    let bytes = shelf.fetch(alloc, "long.test/long", 131_073);
+    let longer = shelf.fetch(alloc, "long.test/long", 131_072).err();
+    fs::remove_dir_all(&rt, "long.test")?;
+    let bytes = bytes.ok().ok_or("long")?;
     assert!(rt; bytes.as_slice() == long.as_slice());
-    let longer = shelf.fetch(alloc, "long.txt", 131_072).err();
     assert_eq!(rt; longer, Some(ShelfError::TooLong { bytes: 131_073 }));
     Ok(())
 }

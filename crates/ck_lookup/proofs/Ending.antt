@@ -11,7 +11,7 @@ use Rattle.ck_lookup.specs.declared.outcome.Outcome.{Outcome}
 use Rattle.ck_lookup.specs.declared.outcome.Outcome.TheVariants.{Done, Usage, ReadFault, BadScript, TooLarge, WriteFault, NoMemory}
 use Rattle.ck_lookup.specs.Headline.{IsReport}
 use Rattle.ck_lookup.specs.Limits.{AreWithin, line_count}
-use Rattle.ck_lookup.specs.Words.{Command, names}
+use Rattle.ck_command.specs.Words.{Command, names}
 use Rattle.ck_lookup.specs.Causes.{Tells, TellsFirst, AreFirstWithin, AreAllWithin, IsTooLarge, IsReadFault, HasBadScript, IsBadScript, IsBadLine, IsBeyondLine, IsLawful, IsFaultOf, Outside, Ends, IsClear, IsDoneOrNoMemory}
 use Rattle.ck_lookup.specs.Fetching.{AreRead}
 use Rattle.ck_lookup.specs.Running.{IsRefusedScript, IsRefusedRun}

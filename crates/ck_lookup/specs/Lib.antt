@@ -1,5 +1,3 @@
-pub mod Words
-pub mod Parser
 pub mod Limits
 pub mod Headline
 pub mod Causes

@@ -5,12 +5,13 @@ mod fetch;
 mod files;
 mod lookup;
 mod outcome;
+mod program;
 mod report;
 mod scripts;
 mod table;
 #[cfg(test)]
 mod tests;
-mod words;
 
 pub use lookup::run;
 pub use outcome::{Outcome, line_of};
+pub use program::{exit_code, run_program};

@@ -2,13 +2,13 @@ ghost use Rattle.std.specs.Prelude.{◌≡◌, ◌≤◌, ◌⊎◌, ℕ, List, 
 ghost use Rattle.ck_io.specs.Faults.{NeverFall};
 ghost use Rattle.ck_io.specs.Sink.{appended};
 ghost use Rattle.ck_lookup.specs.declared.outcome.Outcome.TheVariants.{Done, Usage, NoMemory};
-ghost use Rattle.ck_lookup.specs.Words.{Command, names, command_of};
+ghost use Rattle.ck_command.specs.Words.{Command, names, command_of};
 ghost use Rattle.ck_lookup.specs.Headline.{IsReport};
 ghost use Rattle.ck_lookup.specs.Causes.{Tells, Ends, IsClear, IsDoneOrNoMemory};
 
 use crate::outcome::Outcome;
 use crate::report::{put_scripts, scripts_of};
-use crate::words::read_words;
+use ck_command::read_words;
 use ck_io::{Gate, Shelf, Sink};
 use ck_report::PutError;
 use std::alloc::Global;

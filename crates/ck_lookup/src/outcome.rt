@@ -13,7 +13,8 @@ pub enum Outcome {
     Usage,
     /// A file couldn't be read.
     ReadFault { file: u64 },
-    /// A file's first line outside the grammar.
+    /// The first line, by file and then by line, that is outside the grammar; where there is none, the first that asks
+    /// for what can't come.
     BadScript { file: u64, line: u64, why: Why },
     /// A file past a limit.
     TooLarge { file: u64 },

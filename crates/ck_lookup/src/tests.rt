@@ -1,11 +1,14 @@
 //! Whole runs over a shelf and a sink in memory.
 ghost use Rattle.std.specs.Prelude.{◌≤◌};
 
-use crate::{Outcome, line_of, run};
-use ck_io::{MemShelf, MemSink, OpenGate};
+use crate::{Outcome, exit_code, line_of, run};
+use ck_io::{Gate, MemShelf, MemSink, OpenGate, Shelf, ShelfError};
 use ck_script::Why;
 use std::alloc::{AllocError, Global};
+use std::process::ExitCode;
 use std::sync::Wait;
+use std::sync::atomic::AtomicU64;
+use std::sync::atomic::Ordering::SeqCst;
 use std::test::Fail;
 use std::thread::Threads;
 
@@ -18,12 +21,18 @@ fn ran_into<R: Threads + Wait + Sync>(
     shelf_fails: Vec<u64>,
     sink: &mut MemSink,
 ) -> Result<Outcome, AllocError> {
+    let words = owned(alloc, words)?;
+    let mut shelf = MemShelf::new(files, shelf_fails);
+    Ok(run(rt, alloc, &words, &mut shelf, sink, &OpenGate))
+}
+
+// The words as `run` takes them.
+fn owned(alloc: Global, words: &[&str]) -> Result<Vec<String>, AllocError> {
     let mut list = Vec::new(alloc);
     for word in words {
         list.push(String::from_str(alloc, word)?)?;
     }
-    let mut shelf = MemShelf::new(files, shelf_fails);
-    Ok(run(rt, alloc, &list, &mut shelf, sink, &OpenGate))
+    Ok(list)
 }
 
 // The same into a sink with room for every report here. Gives the outcome and what the sink took.
@@ -315,4 +324,139 @@ fn fills_the_table(rt: HostRuntime) -> Result<(), Fail> {
     );
     assert!(rt; report.as_str().ends_with("\nt 65536 = 65536\nend\n"));
     Ok(())
+}
+
+// A gate that notes the file and the line of each call.
+#[derive(Drop)]
+struct NotingGate {
+    calls: AtomicU64,
+    files: Vec<AtomicU64>,
+    lines: Vec<AtomicU64>,
+}
+
+impl NotingGate {
+    // Notes up to so many calls.
+    fn new(alloc: Global, room: usize) -> Result<NotingGate, AllocError> {
+        let mut files = Vec::new(alloc);
+        let mut lines = Vec::new(alloc);
+        for _ in 0..room {
+            files.push(AtomicU64::new(0))?;
+            lines.push(AtomicU64::new(0))?;
+        }
+        let calls = AtomicU64::new(0);
+        Ok(NotingGate {
+            calls,
+            files,
+            lines,
+        })
+    }
+
+    // The lines of a file, in the order of the calls.
+    fn lines_of(&self, alloc: Global, file: u64) -> Result<Vec<u64>, AllocError> {
+        let mut lines = Vec::new(alloc);
+        let calls = self.calls.load(SeqCst) as usize;
+        for (noted, line) in self.files.iter().zip(self.lines.iter()).take(calls) {
+            if noted.load(SeqCst) == file {
+                lines.push(line.load(SeqCst))?;
+            }
+        }
+        Ok(lines)
+    }
+}
+
+impl Gate for NotingGate {
+    fn before(&self, who: u64, line: u64) {
+        let call = self.calls.fetch_add(1, SeqCst) as usize;
+        if let (Some(file), Some(noted)) = (self.files.get(call), self.lines.get(call)) {
+            file.store(who, SeqCst);
+            noted.store(line, SeqCst);
+        }
+    }
+}
+
+// Files with blank lines and comments, and the numbers of the lines that run.
+const GATED: &[&str] = &[
+    "# two updates\nset 1 5\n\nset 2 6\n",
+    "\nget 1\n# the second\nwait 2\nget 2",
+    "wait 1\n\n\nget 2\n",
+];
+
+const GATED_LINES: &[&[u64]] = &[&[2, 4], &[2, 4, 5], &[1, 4]];
+
+#[test]
+fn calls_the_gate_once_before_each_line(rt: HostRuntime) -> Result<(), Fail> {
+    let alloc = rt.alloc();
+    let gate = NotingGate::new(alloc, 20)?;
+    let words = owned(alloc, &["table", "u", "q", "r"])?;
+    let mut shelf = MemShelf::new(shelved(alloc, GATED)?, Vec::new(alloc));
+    let mut sink = MemSink::new(alloc, 1000, 1000, Vec::new(alloc))?;
+    let outcome = run(&rt, alloc, &words, &mut shelf, &mut sink, &gate);
+    assert_eq!(rt; outcome, Outcome::Done);
+    assert_eq!(rt; gate.calls.load(SeqCst), 7);
+    for (file, wanted) in GATED_LINES.iter().enumerate() {
+        let lines = gate.lines_of(alloc, file as u64)?;
+        assert_eq!(rt; lines.as_slice(), *wanted, "of file {file}");
+    }
+    Ok(())
+}
+
+// A shelf of empty files that notes the limit of each fetch.
+#[derive(Drop)]
+struct NotingShelf {
+    limits: Vec<u64>,
+}
+
+impl Shelf for NotingShelf {
+    ghost use Rattle.std.specs.Prelude.{Some, []};
+
+    ghost held = { λ _ _. Some [] };
+
+    ghost faults = { λ _ _. 0 };
+
+    fn fetch(&mut self, alloc: Global, _name: &str, limit: u64) -> Result<Vec<u8>, ShelfError> {
+        match self.limits.push(limit) {
+            Ok(()) => Ok(Vec::new(alloc)),
+            Err(_) => Err(ShelfError::Memory),
+        }
+    }
+}
+
+#[test]
+fn fetches_each_file_with_the_limit_of_one(rt: HostRuntime) -> Result<(), Fail> {
+    let alloc = rt.alloc();
+    let words = owned(alloc, &["table", "u", "q", "r"])?;
+    let limits = Vec::new(alloc);
+    let mut shelf = NotingShelf { limits };
+    let mut sink = MemSink::new(alloc, 1000, 1000, Vec::new(alloc))?;
+    let outcome = run(&rt, alloc, &words, &mut shelf, &mut sink, &OpenGate);
+    assert_eq!(rt; outcome, Outcome::Done);
+    assert_eq!(rt; shelf.limits.as_slice(), [33554432u64; 3].as_slice());
+    Ok(())
+}
+
+// All names that aren't held share one count, so no clause tells the first of them from the second.
+#[test]
+fn names_the_first_of_two_files_that_are_not_held(rt: HostRuntime) -> Result<(), Fail> {
+    let alloc = rt.alloc();
+    for (words, file) in [(["table", "v", "w", "u"], 0), (["table", "u", "v", "w"], 1)] {
+        let files = shelved(alloc, &["set 7 10\n"])?;
+        let (outcome, taken) = ran(
+            &rt,
+            alloc,
+            &words,
+            files,
+            Vec::new(alloc),
+            65536,
+            Vec::new(alloc),
+        )?;
+        assert_eq!(rt; outcome, Outcome::ReadFault { file });
+        assert!(rt; taken.is_empty());
+    }
+    Ok(())
+}
+
+#[test]
+fn ends_with_the_status(rt: HostRuntime) {
+    assert!(rt; exit_code(&Outcome::Done) == ExitCode::SUCCESS);
+    assert!(rt; exit_code(&Outcome::WriteFault) == ExitCode::from(7));
 }

@@ -6,9 +6,9 @@ use Rattle.clap.specs.Faults.{fault_of, is_simple_and_free}
 use Rattle.clap.specs.Kinds.{HasKind}
 use Rattle.clap.specs.Matches.{found_of}
 use Rattle.clap.proofs.WalkLemmas.{first_value-rows, raw_values-rows}
-use Rattle.ck_lookup.specs.Words.{command_said}
-use Rattle.ck_lookup.proofs.Parsing.{refused_words, taken_words, files_given}
-use Rattle.ck_lookup.proofs.words.read_table.Goals as goal
+use Rattle.ck_command.specs.Words.{command_said}
+use Rattle.ck_command.proofs.Parsing.{refused_words, taken_words, files_given}
+use Rattle.ck_command.proofs.words.read_table.Goals as goal
 
 pub returns : goal.returns
 returns c =

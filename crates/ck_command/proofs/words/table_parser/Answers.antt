@@ -1,8 +1,8 @@
 use Rattle.std.proofs.Common.{rules, ap, ap₂, ◌≡◌, ◌∙◌, true}
 use Rattle.clap.specs.Walk.{rule_of}
 use Rattle.clap.specs.Simple.{app_of_fields, on_top, with_rule}
-use Rattle.ck_lookup.specs.Parser.{seed_option, workers_option, file_names}
-use Rattle.ck_lookup.proofs.words.table_parser.Goals as goal
+use Rattle.ck_command.specs.Parser.{seed_option, workers_option, file_names}
+use Rattle.ck_command.proofs.words.table_parser.Goals as goal
 
 pub returns : goal.returns
 returns c =

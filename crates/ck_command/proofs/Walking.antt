@@ -12,10 +12,10 @@ use Rattle.clap.specs.Faults.{fault_of, settle_fault, turn_fault, walk_fault, us
 use Rattle.clap.proofs.FaultLemmas.{leaf_fault}
 use Rattle.clap.specs.declared.error.kind.ErrorKind.{ErrorKind}
 use Rattle.clap.specs.declared.error.kind.ErrorKind.TheVariants.{ArgumentConflict}
-use Rattle.ck_lookup.specs.Parser.{table_app}
-use Rattle.ck_lookup.specs.Words.{Said, Word, file, option, end, other, nothing_said, command_with, setting, read, say, with_value, word_of}
-use Rattle.ck_lookup.proofs.Rows.{same_text, some_none, nonempty, and_false, or_true, top, rules, seed, workers, files, option_at, value_at, put, which, once, with_value_is, Tells, tells_put, tells_file, use_passes, use_again}
-use Rattle.ck_lookup.proofs.Turns.{IsDashed, Looks, looks, Pending, at, held_fault, IsWrong, end_of, Passes, Answers, Reads, step, stop, IsFree, after_file, trailing_turn, trailing_walk, file_turn, file_walk, end_turn, end_walk, other_turn, unknown_turn, given_turn, given_walk, waits_turn, waits_walk, waiting_at, value_turn, value_walk, no_value, one_value}
+use Rattle.ck_command.specs.Parser.{table_app}
+use Rattle.ck_command.specs.Words.{Said, Word, file, option, end, other, nothing_said, command_with, setting, read, say, with_value, word_of}
+use Rattle.ck_command.proofs.Rows.{same_text, some_none, nonempty, and_false, or_true, top, rules, seed, workers, files, option_at, value_at, put, which, once, with_value_is, Tells, tells_put, tells_file, use_passes, use_again}
+use Rattle.ck_command.proofs.Turns.{IsDashed, Looks, looks, Pending, at, held_fault, IsWrong, end_of, Passes, Answers, Reads, step, stop, IsFree, after_file, trailing_turn, trailing_walk, file_turn, file_walk, end_turn, end_walk, other_turn, unknown_turn, given_turn, given_walk, waits_turn, waits_walk, waiting_at, value_turn, value_walk, no_value, one_value}
 
 -- ---- what stays held with a fault is refused in the end
 

@@ -1,8 +1,8 @@
 use Rattle.std.proofs.Common.{rules, arith, sym, ap, ◌∙◌, ◌≡◌, Some, Bor, List, ℕ}
 use Rattle.std.specs.Prelude.{option_map}
-use Rattle.ck_lookup.specs.Words.{setting}
-use Rattle.ck_lookup.proofs.Parsing.{setting_some, setting_low}
-use Rattle.ck_lookup.proofs.words.setting.Goals as goal
+use Rattle.ck_command.specs.Words.{setting}
+use Rattle.ck_command.proofs.Parsing.{setting_some, setting_low}
+use Rattle.ck_command.proofs.words.setting.Goals as goal
 
 pub returns-then-n-least : goal.returns-then-n-least
 returns-then-n-least c =

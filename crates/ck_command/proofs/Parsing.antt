@@ -14,11 +14,11 @@ use Rattle.clap.specs.Kinds.{Kinds, IsAmong}
 use Rattle.clap.specs.Faults.{fault_of}
 use Rattle.clap.specs.declared.error.kind.ErrorKind.{ErrorKind}
 use Rattle.clap.specs.declared.error.kind.ErrorKind.TheVariants.{OutOfMemory}
-use Rattle.ck_lookup.specs.Parser.{table_app}
-use Rattle.ck_lookup.specs.Words.{Said, are_file_names, command_said, nothing_said, read, said_after, setting}
-use Rattle.ck_lookup.proofs.Rows.{Tells, one}
-use Rattle.ck_lookup.proofs.Turns.{IsWrong}
-use Rattle.ck_lookup.proofs.Walking.{AllTexts, parses}
+use Rattle.ck_command.specs.Parser.{table_app}
+use Rattle.ck_command.specs.Words.{Said, are_file_names, command_said, nothing_said, read, said_after, setting}
+use Rattle.ck_command.proofs.Rows.{Tells, one}
+use Rattle.ck_command.proofs.Turns.{IsWrong}
+use Rattle.ck_command.proofs.Walking.{AllTexts, parses}
 
 all_texts : {Z : Type 0} (xs : List (String Z)) → AllTexts (map string_bytes xs)
 all_texts [] = tt

@@ -1,8 +1,8 @@
 ghost use Rattle.std.specs.Prelude.{◌≡◌, ◌==◌, not, length, ◌≤◌, ◌<◌, ◌^◌, [], drop, map, unwrap_or, option_map, option_and_then, MatchOption, IfOk, None, Some, string_bytes};
 ghost use Rattle.std.specs.List.{list_all};
 ghost use Rattle.clap.specs.Simple.{app_of};
-ghost use Rattle.ck_lookup.specs.Parser.{table_app};
-ghost use Rattle.ck_lookup.specs.Words.{are_file_names, command_of, command_said, said_after, setting};
+ghost use Rattle.ck_command.specs.Parser.{table_app};
+ghost use Rattle.ck_command.specs.Words.{are_file_names, command_of, command_said, said_after, setting};
 
 use ck_script::read_decimal;
 use clap::error::ErrorKind;

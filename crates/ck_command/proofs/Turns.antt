@@ -10,8 +10,8 @@ use Rattle.clap.specs.Kinds.{Kinds, or_else}
 use Rattle.clap.specs.Faults.{settle_fault, turn_fault, walk_fault, use_fault, flags_fault}
 use Rattle.clap.specs.declared.error.kind.ErrorKind.{ErrorKind}
 use Rattle.clap.specs.declared.error.kind.ErrorKind.TheVariants.{UnknownArgument, InvalidValue}
-use Rattle.ck_lookup.specs.Words.{Said, Word, file, option, end, other, long_word, command_said, word_of}
-use Rattle.ck_lookup.proofs.Rows.{nonempty, or_nil, and_false, top, rules, files, option_at, which, arg_is, Tells}
+use Rattle.ck_command.specs.Words.{Said, Word, file, option, end, other, long_word, command_said, word_of}
+use Rattle.ck_command.proofs.Rows.{nonempty, or_nil, and_false, top, rules, files, option_at, which, arg_is, Tells}
 
 -- ---- what a word looks like
 

@@ -10,8 +10,8 @@ use Rattle.clap.specs.Faults.{use_fault}
 use Rattle.clap.specs.declared.error.kind.ErrorKind.TheVariants.{ArgumentConflict}
 use Rattle.clap.specs.declared.builder.value_parser.Reading.{Reading}
 use Rattle.clap.specs.declared.parser.matches.ValueSource.{ValueSource}
-use Rattle.ck_lookup.specs.Parser.{table_app, seed_option, workers_option, file_names}
-use Rattle.ck_lookup.specs.Words.{Said, with_value}
+use Rattle.ck_command.specs.Parser.{table_app, seed_option, workers_option, file_names}
+use Rattle.ck_command.specs.Words.{Said, with_value}
 
 -- ---- the rows
 

@@ -2,7 +2,7 @@ use Rattle.std.proofs.Common.{arith, sym, ap, not, ◌∙◌, ◌≡◌, ◌==�
 use Rattle.std.specs.List.{list_all}
 use Rattle.std.proofs.lemmas.List.{take_all}
 use Rattle.std.proofs.lemmas.List.Folds.{list_all-map, list_all_at}
-use Rattle.ck_lookup.proofs.words.none_is_empty.Goals as goal
+use Rattle.ck_command.proofs.words.none_is_empty.Goals as goal
 
 abbrev is_said : Bor (List ℕ) → Bool
 is_said name = not (length name.now == 0)

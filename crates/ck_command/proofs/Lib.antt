@@ -1,0 +1,4 @@
+mod Rows
+mod Turns
+mod Walking
+mod Parsing
