@@ -6,3 +6,7 @@ pub mod Updates
 pub mod Rebuilds
 pub mod OnePlan
 pub mod Answered
+pub mod Walking
+pub mod Says
+pub mod Decided
+pub mod Replies

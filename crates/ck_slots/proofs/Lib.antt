@@ -6,3 +6,7 @@ pub mod Forms
 pub mod Parts
 pub mod Counts
 pub mod Maps
+pub mod Looks
+pub mod Keeping
+pub mod Steps
+pub mod Lives
