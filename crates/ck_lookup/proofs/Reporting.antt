@@ -1,23 +1,22 @@
 -- Where all updates come before all queries, every answer's place is the number of all updates.
-use Rattle.std.proofs.Common.{◌≡◌, ℕ, zero, suc, ◌+◌, ◌<◌, ◌≤◌, List, [], ◌∷◌, length, map, take, get_or, refl, ap, subst, sym, ◌∙◌, arith, decimal, replicate, Option, None}
+use Rattle.std.proofs.Common.{◌≡◌, ℕ, ◌+◌, ◌<◌, ◌≤◌, List, [], ◌∷◌, length, map, refl, ap, sym, ◌∙◌, arith, decimal, replicate, Option, None}
 use Rattle.std.specs.List.{AllByRecursion}
 use Rattle.std.specs.List.Sorted.{IsNonDecreasing}
 use Rattle.std.specs.Ordering.{nat_cmp}
 use Rattle.std.proofs.lemmas.List.{take_all, length-replicate, get_or-replicate}
 use Rattle.ck_history.specs.Key.{IsKey}
 use Rattle.ck_history.specs.Map.{Map, find, after, answer_after, after_from, replies}
-use Rattle.ck_history.specs.Legal.{Query, ArePlaced, AllLegal}
+use Rattle.ck_history.specs.Legal.{ArePlaced, AllLegal}
 use Rattle.ck_history.specs.declared.update.Update.{Update}
 use Rattle.ck_history.specs.declared.update.Reply.{Reply}
 use Rattle.ck_script.specs.declared.line.Numbered.{Numbered}
 use Rattle.ck_script.specs.declared.line.UpLine.{UpLine}
 use Rattle.ck_script.specs.declared.line.UpLine.TheVariants.{Call, Hold}
 use Rattle.ck_script.specs.declared.line.AskLine.{AskLine}
-use Rattle.ck_script.specs.declared.line.AskLine.TheVariants.{Ask, Wait}
-use Rattle.ck_script.specs.Grammar.{FileSays, IsUpdateLine, update_words, IsQueryLine, query_words}
+use Rattle.ck_script.specs.Grammar.{FileSays, IsUpdateLine, update_words}
 use Rattle.ck_script.specs.Text.{lines}
 use Rattle.ck_script.specs.Checks.{range_fault}
-use Rattle.ck_script.specs.Script.{said_of, updates, holds, HoldLine, queries, greatest, bounded, bounded_files, script_of, QueriesSay}
+use Rattle.ck_script.specs.Script.{said_of, updates, holds, HoldLine, queries, bounded, bounded_files, script_of, QueriesSay}
 use Rattle.ck_script.proofs.Ranges.{least_in_range}
 use Rattle.ck_script.proofs.Saying.{Say-taken}
 use Rattle.ck_report.specs.declared.asked.Asked.{Asked}

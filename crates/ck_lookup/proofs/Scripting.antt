@@ -1,18 +1,22 @@
 -- Script files that are read one after another.
-use Rattle.std.proofs.Common.{◌≡◌, ℕ, zero, suc, ◌+◌, ◌-◌, ◌<◌, ◌≤◌, List, [], ◌∷◌, ◌++◌, length, map, take, drop, get_or, Option, Some, None, refl, ap, subst, sym, ◌∙◌, arith, inl, inr, decimal, add-one}
+use Rattle.std.proofs.Common.{◌≡◌, ℕ, zero, suc, ◌+◌, ◌-◌, ◌<◌, List, [], ◌∷◌, ◌++◌, length, map, take, drop, get_or, Some, refl, ap, subst, sym, ◌∙◌, arith, inl, decimal, add-one, Bool, ◌||◌}
 use Rattle.std.specs.Prelude.{slice_get}
+use Rattle.std.specs.List.{list_any}
 use Rattle.std.proofs.lemmas.List.{take_all}
+use Rattle.std.proofs.lemmas.List.Folds.{list_any-append}
 use Rattle.ck_history.specs.Key.{IsKey}
 use Rattle.ck_history.specs.declared.update.Update.{Update}
 use Rattle.ck_script.specs.declared.line.Numbered.{Numbered}
 use Rattle.ck_script.specs.declared.line.UpLine.{UpLine}
 use Rattle.ck_script.specs.declared.line.AskLine.{AskLine}
 use Rattle.ck_script.specs.Grammar.{FileSays, IsUpdateLine, update_words, IsQueryLine, query_words}
+use Rattle.ck_script.specs.Fronts.{is_wait, any_wait}
 use Rattle.ck_script.specs.Script.{QueriesSay}
+use Rattle.ck_script.proofs.Circles.{or_false}
 use Rattle.ck_lookup.specs.declared.outcome.Outcome.{Outcome}
 use Rattle.ck_lookup.specs.declared.outcome.Outcome.TheVariants.{Done, Usage, ReadFault, BadScript, TooLarge, WriteFault, NoMemory}
-use Rattle.ck_lookup.specs.Causes.{IsLawful, IsFaultOf, IsBadLine}
-use Rattle.ck_lookup.specs.Running.{IsRefusedUpdates, IsRefusedQueries, IsRefusedQueryFile, IsRefusedScript, IsBadQueryLine}
+use Rattle.ck_lookup.specs.Causes.{IsLawful}
+use Rattle.ck_lookup.specs.Running.{IsRefusedUpdates, IsRefusedQueries, IsRefusedQueryFile, IsRefusedScript}
 
 -- lists under a map, one more element at a time
 module _ {X Y : Type 0} (f : X → Y) where
@@ -105,3 +109,9 @@ script_without_queries u qs ups Usage says refused = refused
 script_without_queries u qs ups (ReadFault file) says refused = refused
 script_without_queries u qs ups (TooLarge file) says refused = refused
 script_without_queries u qs ups WriteFault says refused = refused
+
+-- a `wait` in one more file
+pub any_wait_push : {A : Type 0} (files : List (List (Numbered (AskLine A)))) (said : List (Numbered (AskLine A))) (a b : Bool) → a ≡ any_wait files → b ≡ list_any (λ l. is_wait l.what) said → (a || b) ≡ any_wait (files ++ said ∷ [])
+any_wait_push {A} files said a b before here =
+    let waits : List (Numbered (AskLine A)) → Bool = λ file. list_any (λ l. is_wait l.what) file in
+    ap (λ x. x || b) before ∙ (ap (λ y. any_wait files || y) (here ∙ sym (or_false (waits said))) ∙ sym (list_any-append waits files (said ∷ [])))

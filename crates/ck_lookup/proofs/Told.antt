@@ -1,14 +1,14 @@
 -- Files that are read one after another, and what is told of them.
-use Rattle.std.proofs.Common.{◌≡◌, ℕ, zero, suc, ◌+◌, ◌<◌, ◌≤◌, List, [], ◌∷◌, ◌++◌, length, map, take, get_or, Option, Some, None, IfSome, refl, ap, subst, sym, ◌∙◌, arith, add-one}
+use Rattle.std.proofs.Common.{◌≡◌, ℕ, zero, suc, ◌+◌, ◌<◌, List, [], ◌∷◌, ◌++◌, length, map, take, get_or, Option, Some, None, IfSome, refl, ap, subst, sym, ◌∙◌, arith, add-one}
 use Rattle.std.specs.Prelude.{slice_get}
 use Rattle.std.proofs.lemmas.List.{take-map}
 use Rattle.std.proofs.lemmas.Option.{slice_get_within, get_or_from_slice_get}
 use Rattle.std.proofs.Math.Seq.{take-suc}
-use Rattle.ck_io.specs.Faults.{Rose, NeverFall}
+use Rattle.ck_io.specs.Faults.{NeverFall}
 use Rattle.ck_lookup.specs.declared.outcome.Outcome.{Outcome}
 use Rattle.ck_lookup.specs.declared.outcome.Outcome.TheVariants.{Done, Usage, ReadFault, BadScript, TooLarge, WriteFault, NoMemory}
 use Rattle.ck_lookup.specs.Limits.{AreWithin}
-use Rattle.ck_lookup.specs.Causes.{TellsFirst, AreFirstWithin, IsTooLarge, IsReadFault}
+use Rattle.ck_lookup.specs.Causes.{AreFirstWithin, IsTooLarge}
 use Rattle.ck_lookup.specs.Fetching.{AreRead, IsRefusedNext}
 use Rattle.ck_lookup.specs.Running.{IsRefusedRun}
 

@@ -1,5 +1,5 @@
 -- What the parts of a run make of its files.
-use Rattle.std.specs.Prelude.{◌≡◌, ℕ, zero, suc, ◌<◌, List, [], ◌∷◌, map, Some, Option, slice_get, decimal}
+use Rattle.std.specs.Prelude.{◌≡◌, ℕ, suc, ◌<◌, List, [], map, Some, Option, slice_get, decimal}
 use Rattle.std.specs.Ordering.{nat_cmp}
 use Rattle.ck_history.specs.Map.{Map, find, after_from, replies}
 use Rattle.ck_history.specs.declared.update.Update.{Update}
@@ -12,7 +12,7 @@ use Rattle.ck_script.specs.Script.{updates, queries}
 use Rattle.ck_report.specs.declared.asked.Asked.{Asked}
 use Rattle.ck_report.specs.Text.{report_text}
 use Rattle.ck_lookup.specs.declared.outcome.Outcome.{Outcome}
-use Rattle.ck_lookup.specs.declared.outcome.Outcome.TheVariants.{Done, Usage, ReadFault, BadScript, TooLarge, WriteFault, NoMemory}
+use Rattle.ck_lookup.specs.declared.outcome.Outcome.TheVariants.{ReadFault, BadScript, TooLarge, NoMemory}
 use Rattle.ck_lookup.specs.Headline.{capacity}
 use Rattle.ck_lookup.specs.Causes.{IsFaultOf, IsLawful, IsBadScript, HasBadScript, IsReadFault, IsTooLarge}
 

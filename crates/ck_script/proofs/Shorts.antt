@@ -1,7 +1,7 @@
--- `hold` lines that are beyond, for one query file after another.
-use Rattle.std.proofs.Common.{◌≡◌, ℕ, zero, suc, ◌+◌, ◌<◌, ◌==◌, nat_lt, nat_le, inl, inr, Bool, true, false, ◌&&◌, ◌||◌, take, List, [], ◌∷◌, length, get_or, refl, ap, arith, ◌∙◌, sym, Some, None}
+-- Lines that are beyond: `hold` lines for one query file after another, and files in which no task waits.
+use Rattle.std.proofs.Common.{◌≡◌, ℕ, zero, suc, ◌+◌, ◌<◌, ◌==◌, nat_lt, nat_le, inl, inr, Bool, true, false, ◌&&◌, ◌||◌, take, List, [], ◌∷◌, length, map, get_or, refl, ap, arith, ◌∙◌, sym, Option, Some, None}
 use Rattle.std.specs.List.{slice_get, find, list_any, position_or_len}
-use Rattle.std.specs.Option.{option_map, option_map_or}
+use Rattle.std.specs.Option.{option_map, option_map_or, option_or}
 use Rattle.std.proofs.lemmas.Bool.{cond-false, ne_eqb}
 use Rattle.std.proofs.lemmas.List.Folds.{find_at}
 use Rattle.std.proofs.lemmas.Option.{slice_get_past, slice_get_read}
@@ -9,9 +9,10 @@ use Rattle.ck_script.specs.declared.line.Numbered.{Numbered}
 use Rattle.ck_script.specs.declared.line.UpLine.{UpLine}
 use Rattle.ck_script.specs.declared.line.UpLine.TheVariants.{Call, Hold}
 use Rattle.ck_script.specs.declared.line.AskLine.{AskLine}
-use Rattle.ck_script.specs.Script.{queries}
-use Rattle.ck_script.specs.Checks.{query_file, is_hold_beyond}
-use Rattle.ck_script.specs.Fronts.{is_hold}
+use Rattle.ck_script.specs.declared.line.AskLine.TheVariants.{Ask, Wait}
+use Rattle.ck_script.specs.Script.{said_of, updates, queries}
+use Rattle.ck_script.specs.Checks.{query_file, is_hold_beyond, is_wait_beyond, first_wait_beyond, range_fault}
+use Rattle.ck_script.specs.Fronts.{is_hold, is_wait, any_hold, any_wait}
 use Rattle.ck_script.specs.Shorts.{names_no_file, is_short}
 use Rattle.ck_script.proofs.Fronts.{lt_true, lt_false}
 use Rattle.ck_script.proofs.Circles.{position_same, position_either, within_or_above, no_file, or_false, one_more, le_false, le_true, either_false}
@@ -106,3 +107,26 @@ none_beyond files (l ∷ more) none =
 
 pub no_hold_none_beyond : {C A : Type 0} (files : List (List (AskLine A))) (ups : List (Numbered (UpLine C))) → list_any (λ l. is_hold l.what) ups ≡ false → option_map (λ l. l.line) (find (λ l. is_hold_beyond files l.what) ups) ≡ None
 no_hold_none_beyond files ups none = ap (option_map (λ l. l.line)) (none_beyond files ups none)
+
+-- files with no `wait` line
+
+not_above : {A : Type 0} (all : ℕ) (what : AskLine A) → is_wait what ≡ false → is_wait_beyond all what ≡ false
+not_above all (Ask key) none = refl
+not_above all (Wait count) none = absurd (cc)
+
+none_above : {A : Type 0} (all : ℕ) (lines : List (Numbered (AskLine A))) → list_any (λ l. is_wait l.what) lines ≡ false → find (λ l. is_wait_beyond all l.what) lines ≡ None
+none_above all [] none = refl
+none_above all (l ∷ more) none =
+    let both = either_false (is_wait l.what) (list_any (λ l. is_wait l.what) more) none in
+    cond-false (is_wait_beyond all l.what) _ _ (not_above all l.what both.0) ∙ none_above all more both.1
+
+no_wait_above : {A : Type 0} (all f : ℕ) (files : List (List (Numbered (AskLine A)))) → any_wait files ≡ false → first_wait_beyond all f files ≡ None
+no_wait_above all f [] none = refl
+no_wait_above {A} all f (file ∷ more) none =
+    let both = either_false (list_any (λ l. is_wait l.what) file) (any_wait more) none in
+    ap (λ (o : Option (Numbered (AskLine A))). option_or (option_map (λ l. record { file = f; line = l.line }) o) (first_wait_beyond all (f + 1) more)) (none_above all file both.0) ∙ no_wait_above all (f + 1) more both.1
+
+-- where no task waits, nothing is beyond
+pub in_range_without_waits : {C A : Type 0} (ups : List (Numbered (UpLine C))) (asks : List (List (Numbered (AskLine A)))) → any_hold ups ≡ false → any_wait asks ≡ false → range_fault ups asks ≡ None
+in_range_without_waits {C} ups asks no_hold no_wait =
+    ap (λ (o : Option (Numbered (UpLine C))). option_or (option_map (λ l. record { file = 0; line = l.line }) o) (first_wait_beyond (length (updates (said_of ups))) 1 asks)) (none_beyond (map said_of asks) ups no_hold) ∙ no_wait_above (length (updates (said_of ups))) 1 asks no_wait

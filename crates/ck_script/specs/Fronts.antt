@@ -1,6 +1,6 @@
 -- A front of a query file: its first lines, whose queries need few updates.
 use Rattle.std.specs.Prelude.{◌≡◌, ℕ, ◌+◌, ◌<◌, ◌≤◌, ◌⊎◌, ◌==◌, ◌&&◌, max, Bool, true, false, List, ◌∷◌, ◌++◌, length, drop}
-use Rattle.std.specs.List.{AllByRecursion}
+use Rattle.std.specs.List.{AllByRecursion, list_any}
 use Rattle.ck_script.specs.declared.line.Numbered.{Numbered}
 use Rattle.ck_script.specs.declared.line.UpLine.{UpLine}
 use Rattle.ck_script.specs.declared.line.UpLine.TheVariants.{Call, Hold}
@@ -14,6 +14,19 @@ use Rattle.ck_script.specs.Checks.{waits_for_more}
 abbrev pub is_hold : {C : Type 0} → UpLine C → Bool
 is_hold (Call u) = false
 is_hold (Hold file count) = true
+
+-- whether it is a `wait` line
+abbrev pub is_wait : {A : Type 0} → AskLine A → Bool
+is_wait (Ask key) = false
+is_wait (Wait count) = true
+
+-- some line is a `hold`
+abbrev pub any_hold : {C : Type 0} → List (Numbered (UpLine C)) → Bool
+any_hold ups = list_any (λ l. is_hold l.what) ups
+
+-- some line of some file is a `wait`
+abbrev pub any_wait : {A : Type 0} → List (List (Numbered (AskLine A))) → Bool
+any_wait files = list_any (λ file. list_any (λ l. is_wait l.what) file) files
 
 -- a `hold` line for file f, which has these lines, is a circle where m updates stand before it
 abbrev pub is_circle_with : {C A : Type 0} → ℕ → List (AskLine A) → ℕ → UpLine C → Bool

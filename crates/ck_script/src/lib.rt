@@ -22,7 +22,7 @@ pub use key_word::KeyWord;
 pub use line::{AskLine, Numbered, UpLine};
 pub use parts::{count_lines, cut, first_line};
 pub use prepend::{prepend_bytes, prepend_number};
-pub use read::{read_queries, read_updates};
+pub use read::{read_queries, read_updates, scan_queries, scan_updates};
 
 #[cfg(test)]
 mod tests;

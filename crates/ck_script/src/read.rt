@@ -1,4 +1,7 @@
-ghost use Rattle.std.specs.Prelude.{◌≡◌, ◌<◌, ◌^◌, length, IfOk, IfErr, OnOk};
+ghost use Rattle.std.specs.Prelude.{◌≡◌, ◌<◌, ◌^◌, ◌++◌, ◌||◌, [], ◌∷◌, length, IfOk, IfErr, OnOk};
+ghost use Rattle.std.specs.List.{list_any};
+ghost use Rattle.ck_script.specs.declared.fault.ScriptError.TheVariants.{Memory};
+ghost use Rattle.ck_script.specs.Fronts.{is_wait, any_hold};
 ghost use Rattle.ck_script.specs.Grammar.{FileSays, IsFirstFault, IfFault, Adds, HasFault, update_words, IsUpdateLine, update_verbs, query_words, IsQueryLine, query_verbs};
 ghost use Rattle.ck_script.specs.Reading.{IsFaultyFirstLine, IsFaultyLine, TakesLine};
 
@@ -20,7 +23,8 @@ pub fn read_updates<K: KeyWord>(
     ensures fault { IfErr result (λ error. IfFault error
         (IsFirstFault (IsUpdateLine K.is_key) (update_words K.spelling) (HasFault K.is_key K.spelling K.is_fault update_verbs) bytes.now)) }
 {
-    read_lines(alloc, bytes)
+    let (said, _) = scan_updates(alloc, bytes)?;
+    Ok(said)
 }
 
 /// What the lines of a query file say, in order, blank lines and comments left out. A file says at most one thing.
@@ -33,45 +37,81 @@ pub fn read_queries<K: KeyWord>(
     ensures fault { IfErr result (λ error. IfFault error
         (IsFirstFault (IsQueryLine K.is_key) (query_words K.spelling) (HasFault K.is_key K.spelling K.is_fault query_verbs) bytes.now)) }
 {
+    let (said, _) = scan_queries(alloc, bytes)?;
+    Ok(said)
+}
+
+/// What `read_updates` reads, and whether a line of it is a `hold`, so that a caller needs no pass of its own to see it.
+pub fn scan_updates<K: KeyWord>(
+    alloc: Global,
+    bytes: &[u8],
+) -> Result<(Vec<Numbered<UpLine<Update<K>>>>, bool), ScriptError>
+    ensures read { IfOk result (λ x. FileSays (IsUpdateLine K.is_key) (update_words K.spelling) bytes.now x.0.items) }
+    ensures only { IfOk result (λ x. (other : _) → FileSays (IsUpdateLine K.is_key) (update_words K.spelling) bytes.now other → other ≡ x.0.items) }
+    ensures holds { IfOk result (λ x. x.1 ≡ any_hold x.0.items) }
+    ensures fault { IfErr result (λ error. IfFault error
+        (IsFirstFault (IsUpdateLine K.is_key) (update_words K.spelling) (HasFault K.is_key K.spelling K.is_fault update_verbs) bytes.now)) }
+{
     read_lines(alloc, bytes)
 }
 
-// What the lines of one kind say.
-fn read_lines<L: ScriptLine>(alloc: Global, bytes: &[u8]) -> Result<Vec<Numbered<L>>, ScriptError>
-    ensures read { IfOk result (λ said. FileSays L.is_taken L.spelling bytes.now said.items) }
-    ensures only { IfOk result (λ said. (other : _) → FileSays L.is_taken L.spelling bytes.now other → other ≡ said.items) }
+/// What `read_queries` reads, and whether a line of it is a `wait`.
+pub fn scan_queries<K: KeyWord>(
+    alloc: Global,
+    bytes: &[u8],
+) -> Result<(Vec<Numbered<AskLine<K>>>, bool), ScriptError>
+    ensures read { IfOk result (λ x. FileSays (IsQueryLine K.is_key) (query_words K.spelling) bytes.now x.0.items) }
+    ensures only { IfOk result (λ x. (other : _) → FileSays (IsQueryLine K.is_key) (query_words K.spelling) bytes.now other → other ≡ x.0.items) }
+    ensures waits { IfOk result (λ x. x.1 ≡ list_any (λ l. is_wait l.what) x.0.items) }
+    ensures fault { IfErr result (λ error. IfFault error
+        (IsFirstFault (IsQueryLine K.is_key) (query_words K.spelling) (HasFault K.is_key K.spelling K.is_fault query_verbs) bytes.now)) }
+{
+    read_lines(alloc, bytes)
+}
+
+// What the lines of one kind say, and whether a task may have to wait at one of them.
+fn read_lines<L: ScriptLine>(
+    alloc: Global,
+    bytes: &[u8],
+) -> Result<(Vec<Numbered<L>>, bool), ScriptError>
+    ensures read { IfOk result (λ x. FileSays L.is_taken L.spelling bytes.now x.0.items) }
+    ensures only { IfOk result (λ x. (other : _) → FileSays L.is_taken L.spelling bytes.now other → other ≡ x.0.items) }
+    ensures waits { IfOk result (λ x. x.1 ≡ list_any (λ l. L.waits l.what) x.0.items) }
     ensures fault { IfErr result (λ error. IfFault error (IsFirstFault L.is_taken L.spelling L.is_fault bytes.now)) }
 {
     let mut said = Vec::new(alloc);
+    let mut waits = false;
     let mut rest = bytes;
     let mut number: u64 = 0;
     while !rest.is_empty() {
         number += 1;
-        rest = take_line(&mut said, number, rest)?;
+        rest = take_line(&mut said, &mut waits, number, rest)?;
     }
-    Ok(said)
+    Ok((said, waits))
 }
 
 // Adds what the first line of a text says, if it says something. The text after it is left.
 fn take_line<'a, L: ScriptLine>(
     said: &mut Vec<Numbered<L>>,
+    waits: &mut bool,
     number: u64,
     text: &'a [u8],
 ) -> Result<&'a [u8], ScriptError>
     requires { 0 < length text.now }
     ensures ok { IfOk result (λ later. TakesLine L.is_taken L.spelling number text.now later.now said.old.items said.new.items) }
+    ensures waits { waits.old ≡ list_any (λ l. L.waits l.what) said.old.items → OnOk result (waits.new ≡ list_any (λ l. L.waits l.what) said.new.items) }
     ensures fault { IfErr result (λ error. IfFault error (IsFaultyFirstLine L.is_fault number text.now)) }
 {
     // Nearly every line is a verb with a short key and a short number, and is read in the same pass that finds its end.
     // Any other line, a faulty one too, is cut out first and judged as a whole.
     match L::read_prefix(text) {
         Some((what, n)) => {
-            said.push(Numbered { line: number, what })?;
+            add(said, waits, number, what)?;
             Ok(text.split_at(n).1)
         }
         None => {
             let (line, later) = first_line(text);
-            add_line(said, number, line)?;
+            add_line(said, waits, number, line)?;
             Ok(later)
         }
     }
@@ -80,17 +120,35 @@ fn take_line<'a, L: ScriptLine>(
 // Adds what a line says, if it says something.
 fn add_line<L: ScriptLine>(
     said: &mut Vec<Numbered<L>>,
+    waits: &mut bool,
     number: u64,
     line: &[u8],
 ) -> Result<(), ScriptError>
     ensures ok { OnOk result (Adds L.is_taken L.spelling number line.now said.old.items said.new.items) }
+    ensures waits { waits.old ≡ list_any (λ l. L.waits l.what) said.old.items → OnOk result (waits.new ≡ list_any (λ l. L.waits l.what) said.new.items) }
     ensures fault { IfErr result (λ error. IfFault error (IsFaultyLine L.is_fault number line.now)) }
 {
     if line.is_empty() || line[0] == b'#' {
         return Ok(());
     }
     match L::read_line(line) {
-        Ok(what) => Ok(said.push(Numbered { line: number, what })?),
+        Ok(what) => add(said, waits, number, what),
         Err(why) => Err(ScriptError::Fault(ScriptFault { line: number, why })),
     }
+}
+
+// Adds what the line with this number says.
+fn add<L: ScriptLine>(
+    said: &mut Vec<Numbered<L>>,
+    waits: &mut bool,
+    number: u64,
+    what: L,
+) -> Result<(), ScriptError>
+    ensures ok { OnOk result (said.new.items ≡ said.old.items ++ record { line = number; what = what } ∷ []) }
+    ensures waits { waits.old ≡ list_any (λ l. L.waits l.what) said.old.items → OnOk result (waits.new ≡ list_any (λ l. L.waits l.what) said.new.items) }
+    ensures memory { IfErr result (λ error. error ≡ Memory) }
+{
+    *waits = *waits || what.waits();
+    said.push(Numbered { line: number, what })?;
+    Ok(())
 }

@@ -12,7 +12,7 @@ use ck_history::Update;
 
 /// What one line of a script says, for the scripts of one kind.
 pub trait ScriptLine: Copy {
-    ghost use Rattle.std.specs.Prelude.{◌≡◌, ℕ, List};
+    ghost use Rattle.std.specs.Prelude.{◌≡◌, ℕ, Bool, List};
     ghost use Rattle.ck_script.specs.declared.fault.Why.{Why};
     ghost use Rattle.ck_script.specs.Text.{words, IsSilent};
 
@@ -25,6 +25,9 @@ pub trait ScriptLine: Copy {
     /// What is wrong with the words of a line that says nothing lawful.
     ghost is_fault: { List (List ℕ) → Why → Type 0 };
 
+    /// Whether a task that comes to the line may have to wait.
+    ghost waits: { Self → Bool };
+
     /// What the line says, or what is wrong with it.
     fn read_line(line: &[u8]) -> Result<Self, Why>
         ensures { MatchResult result (Says is_taken spelling line.now) (is_fault (words line.now)) };
@@ -32,6 +35,10 @@ pub trait ScriptLine: Copy {
     /// What the first line of a text says, and how many bytes it takes with its line feed. None says nothing.
     fn read_prefix(text: &[u8]) -> Option<(Self, usize)>
         ensures { IfSome result (λ x. HasLinePrefix is_taken spelling text.now x.0 x.1) };
+
+    /// Whether a task that comes to the line may have to wait.
+    fn waits(&self) -> bool
+        ensures { result ≡ waits self.now };
 
     /// No two lines have the same words.
     ghost one_line: { (a b : Self) → is_taken a → is_taken b → spelling a ≡ spelling b → a ≡ b };
@@ -46,6 +53,7 @@ pub trait ScriptLine: Copy {
 impl<K: KeyWord> ScriptLine for UpLine<Update<K>> {
     ghost use Rattle.ck_script.specs.Grammar.{IsUpdateLine, update_words, update_verbs, HasFault};
     ghost use Rattle.ck_script.specs.Faultless.{update_faultless};
+    ghost use Rattle.ck_script.specs.Fronts.{is_hold};
     ghost use Rattle.ck_script.specs.Unique.{one_update_line, update_speaks};
 
     ghost is_taken = { IsUpdateLine K.is_key };
@@ -53,6 +61,8 @@ impl<K: KeyWord> ScriptLine for UpLine<Update<K>> {
     ghost spelling = { update_words K.spelling };
 
     ghost is_fault = { HasFault K.is_key K.spelling K.is_fault update_verbs };
+
+    ghost waits = { is_hold };
 
     ghost one_line = { one_update_line K.is_key K.spelling K.one_key };
 
@@ -96,11 +106,16 @@ impl<K: KeyWord> ScriptLine for UpLine<Update<K>> {
             Err(Why::Verb)
         }
     }
+
+    fn waits(&self) -> bool {
+        matches!(self, UpLine::Hold { .. })
+    }
 }
 
 impl<K: KeyWord> ScriptLine for AskLine<K> {
     ghost use Rattle.ck_script.specs.Grammar.{IsQueryLine, query_words, query_verbs, HasFault};
     ghost use Rattle.ck_script.specs.Faultless.{query_faultless};
+    ghost use Rattle.ck_script.specs.Fronts.{is_wait};
     ghost use Rattle.ck_script.specs.Unique.{one_query_line, query_speaks};
 
     ghost is_taken = { IsQueryLine K.is_key };
@@ -108,6 +123,8 @@ impl<K: KeyWord> ScriptLine for AskLine<K> {
     ghost spelling = { query_words K.spelling };
 
     ghost is_fault = { HasFault K.is_key K.spelling K.is_fault query_verbs };
+
+    ghost waits = { is_wait };
 
     ghost one_line = { one_query_line K.is_key K.spelling K.one_key };
 
@@ -138,6 +155,10 @@ impl<K: KeyWord> ScriptLine for AskLine<K> {
         } else {
             Err(Why::Verb)
         }
+    }
+
+    fn waits(&self) -> bool {
+        matches!(self, AskLine::Wait { .. })
     }
 }
 

@@ -1,4 +1,4 @@
-use Rattle.std.proofs.Common.{arith, refl, ◌≡◌, ◌≤◌, ◌+◌, ◌∷◌, [], ap, ◌∙◌, map}
+use Rattle.std.proofs.Common.{arith, refl, ◌+◌, ◌∷◌, [], ap, ◌∙◌, map}
 use Rattle.std.proofs.lemmas.Result.{err_from_is_err_and}
 use Rattle.ck_lookup.proofs.Within.{none_counted}
 use Rattle.ck_lookup.proofs.Told.{refused_next, refused_query, query_read}

@@ -1,8 +1,4 @@
-use Rattle.std.proofs.Common.{List, ℕ, ◌≡◌, ◌∷◌, map, ◌∙◌, sym, subst}
-use Rattle.std.proofs.lemmas.Result.{MatchResult-from_both}
-use Rattle.ck_lookup.specs.Causes.{AreAllWithin, Tells}
-use Rattle.ck_lookup.specs.Headline.{IsReport}
-use Rattle.ck_lookup.specs.Running.{IsRefusedScript, IsRefusedRun}
+use Rattle.std.proofs.Common.{◌∷◌, map, ◌∙◌}
 use Rattle.ck_lookup.proofs.Ending.{all_within, told_files, refused_script, some_read, ok_always, ok_each, err_each}
 use Rattle.ck_lookup.proofs.report.scripts_of.Goals as goal
 

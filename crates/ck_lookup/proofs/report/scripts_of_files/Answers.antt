@@ -1,4 +1,4 @@
-use Rattle.std.proofs.Common.{refl, map, ◌∙◌, sym, subst}
+use Rattle.std.proofs.Common.{refl, map}
 use Rattle.ck_lookup.proofs.Scripting.{first_mapped}
 use Rattle.ck_lookup.proofs.Reporting.{report_of_scripts}
 use Rattle.ck_lookup.proofs.report.scripts_of_files.Goals as goal

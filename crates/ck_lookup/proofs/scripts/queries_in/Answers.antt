@@ -1,6 +1,6 @@
-use Rattle.std.proofs.Common.{arith, ap, ◌+◌, map, ◌∙◌}
+use Rattle.std.proofs.Common.{arith, ap, ◌+◌, map}
 use Rattle.std.proofs.lemmas.Result.{err_from_is_err_and}
-use Rattle.ck_lookup.proofs.Scripting.{take_mapped, mapped_at, map_push, queries_push, refused_queries}
+use Rattle.ck_lookup.proofs.Scripting.{take_mapped, mapped_at, map_push, queries_push, any_wait_push, refused_queries}
 use Rattle.ck_lookup.proofs.scripts.queries_in.Goals as goal
 
 pub returns-in_err-said-clause-refused : goal.returns-in_err-said-clause-refused
@@ -17,4 +17,5 @@ loop-file-preserved c =
     record {
       count = ap (λ n. n + 1) kept.count;
       read = rw (files, c.in_ok-push.ensures.items, map_push) (queries_push _ _ _ _ kept.read (rw c.deref.ensures.value at c.in_ok-said.ensures.read));
+      waits = rw (c.in_ok-push.ensures.items, map_push) (any_wait_push (map (λ file. file.items) c.loop-file.asks.items) c.in_ok-said.said.items _ _ kept.waits c.in_ok-said.ensures.waits);
     }

@@ -7,6 +7,7 @@ use Rattle.ck_script.proofs.read.read_lines.Goals as goal
 pub loop-rest-preserved : goal.loop-rest-preserved
 loop-rest-preserved g c = let taken = c.in_ok-rest.ensures.ok in record {
   read = read_more g.L.ScriptLine.is_taken g.L.ScriptLine.spelling _ _ _ _ _ _ _ c.loop-rest.invariant.read taken.cut taken.adds;
+  waits = c.in_ok-rest.ensures.waits c.loop-rest.invariant.waits;
   room = omega (arith, taken.shorter);
 }
 
