@@ -44,6 +44,8 @@ in_ring_order size words at r = record {
   tail = r.tail;
   head = r.head;
   room = let p = r.producer in let a = p.room in let b = p.seen in let c = r.tail in omega arith;
+  checked = let p = r.producer in let a = p.room in let c = r.tail in omega arith;
+  seen_last = r.producer.seen;
   bounded = let p = r.producer in let a = p.counted in let b = p.bounded in let c = r.tail in omega arith;
   seen = λ n. seen_by n;
   left = r.items;

@@ -16,8 +16,11 @@ pub record IsRingOrder (size : ℕ) (words sent : List ℕ) (at : ℕ → TokenS
   pub head : slice_index words HEAD ≤ length sent
   -- there are never more items in the ring than its size less one, with the value that is to be sent next where the producer found room
   pub room : slice_index words TAIL + pending (at 0).stage ≤ slice_index words HEAD + (size - 1)
+  -- the same by the head that the producer loaded last
+  pub checked : slice_index words TAIL + pending (at 0).stage ≤ (at 0).seen + (size - 1)
   pub bounded : slice_index words TAIL ≤ MOST_SENT
   -- no token, the producer too, has loaded or found a head above the head
+  pub seen_last : (at 0).seen ≤ slice_index words HEAD
   pub seen : (n k x : ℕ) → get_elem? (at n).heads k ≡ some x → x ≤ slice_index words HEAD
   -- the values from the head to below the tail lie in their places
   pub left : (i x : ℕ) → slice_index words HEAD ≤ i → get_elem? sent i ≡ some x → slice_index words (slot size i) ≡ x

@@ -1,5 +1,5 @@
 -- Giving out the tokens of a table, and taking them back.
-use Rattle.std.proofs.Common.{◌≡◌, ℕ, zero, suc, ◌+◌, ◌-◌, ◌<◌, ◌≤◌, List, [], ◌∷◌, ◌++◌, length, All, refl, ap, ◌∙◌, subst, arith, sym}
+use Rattle.std.proofs.Common.{◌≡◌, ℕ, zero, suc, ◌+◌, ◌-◌, ◌<◌, ◌≤◌, List, [], ◌∷◌, ◌++◌, map, length, All, refl, ap, ◌∙◌, subst, arith, sym}
 use Rattle.std.proofs.lemmas.List.Elements.{All-nil, All-cons}
 use mathlib.Core.Option.{some}
 use lib.ListN.{get_elem?}
@@ -22,6 +22,11 @@ module _ {A : Type 0} where
   each_weaker P Q n [] f h = tt
   each_weaker P Q n (x ∷ xs) f h = (f n x (omega arith) h.0, each_weaker P Q (n + 1) xs (λ k y low. f k y (omega arith)) h.1)
 
+  -- without the numbers
+  pub each_all : (P : ℕ → A → Type 0) (Q : A → Type 0) (n : ℕ) (xs : List A) → ((k : ℕ) (x : A) → P k x → Q x) → EachFrom P n xs → All Q xs
+  each_all P Q n [] f h = All-nil Q
+  each_all P Q n (x ∷ xs) f h = All-cons Q x xs (f n x h.0) (each_all P Q (n + 1) xs f h.1)
+
   -- the one at a place
   pub each_at : (P : ℕ → A → Type 0) (n : ℕ) (xs : List A) (k : ℕ) → EachFrom P n xs → k < length xs → (x : A) × (get_elem? xs k ≡ some x) × P (n + k) x
   each_at P n [] k h low = absurd (omega arith)
@@ -40,6 +45,13 @@ pub tied_all : {A B : Type 0} (R : A → B → Type 0) (P : A → Type 0) (xs : 
 tied_all R P [] ys tells h = All-nil P
 tied_all R P (x ∷ xs) [] tells h = absurd h
 tied_all R P (x ∷ xs) (y ∷ ys) tells h = All-cons P x xs (tells x y h.0) (tied_all R P xs ys tells h.1)
+
+-- where the ties are those of a function
+pub tied_map : {A B : Type 0} (R : A → B → Type 0) (f : A → B) (xs : List A) (ys : List B) → ((x : A) (y : B) → R x y → y ≡ f x) → AreTied R xs ys → ys ≡ map f xs
+tied_map R f [] [] is h = refl
+tied_map R f [] (y ∷ ys) is h = absurd h
+tied_map R f (x ∷ xs) [] is h = absurd h
+tied_map R f (x ∷ xs) (y ∷ ys) is h = λ i. is x y h.0 i ∷ tied_map R f xs ys is h.1 i
 
 -- lists whose items are the same
 pub tied_same : {A : Type 0} (R : A → A → Type 0) (xs ys : List A) → ((x y : A) → R x y → y ≡ x) → AreTied R xs ys → ys ≡ xs

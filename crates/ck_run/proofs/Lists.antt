@@ -1,5 +1,5 @@
 -- Lists, in no structure's words.
-use Rattle.std.proofs.Common.{◌≡◌, ℕ, zero, suc, ◌<◌, ◌≤◌, ◌⊎◌, ⊎_elim, inl, inr, List, [], ◌∷◌, ◌++◌, length, take, drop, get_or, All, refl, sym, ap, ◌∙◌, subst, arith}
+use Rattle.std.proofs.Common.{◌≡◌, ℕ, zero, suc, ◌<◌, ◌≤◌, ◌⊎◌, ⊎_elim, inl, inr, List, [], ◌∷◌, ◌++◌, length, map, take, drop, get_or, All, refl, sym, ap, ◌∙◌, subst, arith}
 use Rattle.std.proofs.Math.Seq.{take-append_seam}
 use Rattle.std.proofs.lemmas.List.{take-append-le, take-append-drop}
 use Rattle.std.proofs.lemmas.List.Elements.{All-nil, All-cons, All-head, All-tail, All-append}
@@ -62,3 +62,8 @@ module _ {A : Type 0} where
   pub All-both : (P Q : A → Type 0) (xs : List A) → All P xs → All Q xs → All (λ (x : A). P x × Q x) xs
   All-both P Q [] h g = All-nil (λ (x : A). P x × Q x)
   All-both P Q (x ∷ xs) h g = All-cons (λ (y : A). P y × Q y) x xs (All-head P x xs h, All-head Q x xs g) (All-both P Q xs (All-tail P x xs h) (All-tail Q x xs g))
+
+module _ {A B : Type 0} where
+  pub All-unmap : (f : A → B) (P : B → Type 0) (xs : List A) → All P (map f xs) → All (λ (x : A). P (f x)) xs
+  All-unmap f P [] h = All-nil (λ (x : A). P (f x))
+  All-unmap f P (x ∷ xs) h = All-cons (λ (y : A). P (f y)) x xs (All-head P (f x) (map f xs) h) (All-unmap f P xs (All-tail P (f x) (map f xs) h))

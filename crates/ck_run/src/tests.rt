@@ -37,6 +37,43 @@ fn exchange_twice(words: &Words<u64, Anything>, token: &mut Token<u64>) -> (u64,
     )
 }
 
+// What a structure makes of a token.
+#[derive(Drop)]
+struct End {
+    token: Token<u64>,
+    number: u64,
+}
+
+fn end_of(number: u64, token: Token<u64>) -> End
+    ensures { result ≡ record { token = token; number = number } }
+{
+    End { token, number }
+}
+
+fn token_of(end: End) -> Token<u64>
+    ensures { result ≡ end.token }
+{
+    let End { token, number: _ } = end;
+    token
+}
+
+#[test]
+fn tokens_are_given_out_in_order_and_taken_in(rt: HostRuntime) -> Result<(), Fail> {
+    let opening = Opening {
+        words: vec![in rt.alloc(); 3u64; 1]?,
+        tokens: 3,
+        config: 7u64,
+    };
+    let mut ends = Vec::with_capacity(rt.alloc(), 2)?;
+    let (words, mut first) = Words::<u64, Anything>::new(rt.alloc(), &opening)?;
+    words.part_all(&mut first, &mut ends, 2, end_of);
+    assert_eq!(rt; (ends[0].number, ends[1].number), (1, 2));
+    words.join_all(&mut first, ends, token_of);
+    let left = words.close(first);
+    assert_eq!(rt; left.as_slice(), [3].as_slice());
+    Ok(())
+}
+
 #[test]
 fn two_threads_step_and_one_closes(rt: HostRuntime) -> Result<(), Fail> {
     let opening = Opening {
