@@ -1,15 +1,16 @@
 //! How a domain is made, and what it leaves.
 ghost use Rattle.std.specs.Prelude.{◌≡◌, ℕ, ◌+◌, ◌<◌, ◌≤◌, ◌^◌, [], length, vec_len, vec_capacity, IfOk, All};
-ghost use Rattle.ck_run.specs.Tokens.{table, number};
+ghost use Rattle.ck_run.specs.Tokens.{Table, table};
+ghost use Rattle.ck_run.specs.Ends.{fresh};
 ghost use Rattle.ck_epoch.specs.State.{records_of};
 ghost use Rattle.ck_epoch.specs.Lists.{Answers};
-ghost use Rattle.ck_epoch.specs.Closing.{opened, AreOpening, keeping, fresh, AreFresh, joined_all, IsClosedDomain};
+ghost use Rattle.ck_epoch.specs.Closing.{opened, AreOpening, AreFresh, IsClosedDomain};
 
 use crate::about::About;
 use crate::answers::Closed;
 use crate::backlog::Backlog;
 use crate::client::Client;
-use crate::domain::{Calls, Domain};
+use crate::domain::Domain;
 use crate::ends::{PAD, Pass, Writer};
 use crate::handler::Handler;
 use crate::item::Item;
@@ -37,34 +38,33 @@ fn opening_words<C: Client>(alloc: Global, client: &C, records: u64) -> Result<V
     Ok(words)
 }
 
-impl<C: Client + Drop> Domain<C> {
-    // The passes of the accounts that the first token keeps.
-    fn part_all(
-        words: &Words<About<C>, Calls<C>>,
-        token: &mut Token<About<C>>,
-        passes: &mut Vec<Pass<C>>,
-        records: u64,
-    )
-        requires token { token.old ≡ record { id = words.now.id; view = keeping words.now.origin 1 records } }
-        requires opening { AreOpening C.meaning words.now.origin × (records_of words.now.origin ≡ records) }
-        requires room { (passes.old.items ≡ []) × (records ≤ vec_capacity passes.old) }
-        ensures token { token.new ≡ fresh words.now 0 }
-        ensures passes { (vec_len passes.new ≡ records) × AreFresh words.now 1 passes.new.items }
+impl<C: Client> Pass<C> {
+    // The pass of a token that made no step. Records are numbered from 0, and their tokens from 1: the writer's has the number 0.
+    fn new(number: u64, token: Token<About<C>>) -> Pass<C>
+        requires fresh { (table : Table (About C)) × (token ≡ fresh table number) × (0 < number) × (number ≤ records_of table.origin) × AreOpening C.meaning table.origin }
+        ensures { result ≡ record { token = token; calls = 0; tally = 0 } }
     {
-        for rec in 0..records {
-            let other = words.part(token);
-            passes.push_reserved(Pass {
-                before: [0; PAD],
-                token: other,
-                rec,
-                depth: 0,
-                calls: 0,
-                tally: 0,
-                after: [0; PAD],
-            });
+        Pass {
+            before: [0; PAD],
+            token,
+            rec: number - 1,
+            depth: 0,
+            calls: 0,
+            tally: 0,
+            after: [0; PAD],
         }
     }
 
+    // Its token.
+    fn into_token(self) -> Token<About<C>>
+        ensures { result ≡ self.token }
+    {
+        let Pass { token, .. } = self;
+        token
+    }
+}
+
+impl<C: Client + Drop> Domain<C> {
     /// A domain over the words of `client`, with its writer and the passes of its records, in their order. The writer has room for so
     /// many items and answers, and keeps the handler. The only error is want of memory.
     pub fn new<F: Fn(Item) -> Back + Drop>(
@@ -91,7 +91,7 @@ impl<C: Client + Drop> Domain<C> {
             config: About { client, records },
         };
         let (words, mut token) = Words::new(alloc, &opening)?;
-        Domain::part_all(&words, &mut token, &mut passes, records);
+        words.part_all(&mut token, &mut passes, records, Pass::new);
         let writer = Writer {
             token,
             backlog,
@@ -101,22 +101,6 @@ impl<C: Client + Drop> Domain<C> {
         };
         let Opening { config: about, .. } = opening;
         Ok((Domain { words, about }, writer, passes))
-    }
-
-    // Joins the passes' tokens into the writer's.
-    fn join_all(
-        words: &Words<About<C>, Calls<C>>,
-        token: &mut Token<About<C>>,
-        passes: Vec<Pass<C>>,
-    )
-        requires tables { (table token.old ≡ words.now) × All (λ p. table p.token ≡ words.now) passes.items }
-        ensures table { table token.new ≡ table token.old }
-        ensures view { token.new.view ≡ joined_all token.old.view passes.items }
-    {
-        for pass in passes {
-            let Pass { token: other, .. } = pass;
-            words.join(token, other);
-        }
     }
 
     /// The words of the client as they were left. The writer and the passes are given back: what they did are the parts of one true run,
@@ -129,7 +113,7 @@ impl<C: Client + Drop> Domain<C> {
     {
         let Domain { words, about } = self;
         let Writer { mut token, .. } = writer;
-        Domain::join_all(&words, &mut token, passes);
+        words.join_all(&mut token, passes, Pass::into_token);
         let base = base_word(about.records);
         let mut left = words.close(token);
         let size = left.len() - base;
