@@ -1,0 +1,28 @@
+use Rattle.std.proofs.Common.{◌≡◌, ◌+◌, ◌∙◌, [], ◌∷◌, ◌++◌, take, sym, ap, subst, append_assoc, arith}
+use Rattle.ck_script.specs.declared.line.Numbered.{Numbered}
+use Rattle.ck_script.specs.declared.line.UpLine.{UpLine}
+use Rattle.ck_pool.specs.Runs.{HoldsReader}
+use Rattle.ck_pool.proofs.Running.{updates_snoc, within_at, take_one_more}
+use Rattle.ck_pool.proofs.updates.run_updates.Goals as goal
+
+pub run_line-requires-clause-reader : goal.run_line-requires-clause-reader
+run_line-requires-clause-reader g c κs within = subst (λ (l : Numbered (UpLine g.row.D-Call.Denot)). HoldsReader (g.D.Dict.readers c.args.context.now.dict.now) l.what) (sym c.index-lines-i.is) (within_at (g.D.Dict.readers c.args.context.now.dict.now) c.args.lines.now c.loop-i.i c.index-lines-i.result c.loop-i-test.true c.requires.readers)
+
+pub loop-i-preserved : goal.loop-i-preserved
+loop-i-preserved g c =
+    let lines = c.args.lines.now in
+    let i = c.loop-i.i in
+    let line = c.index-lines-i.result in
+    let before = c.loop-i.invariant.ran in
+    let now = c.in_ok-run_line.ensures in
+    let here = now.ran in
+    let taken : take (i + 1) lines ≡ take i lines ++ line ∷ [] = take_one_more lines i line c.loop-i-test.true c.index-lines-i.is in
+    record {
+      ready = now.ready;
+      calls = let a = c.loop-i.invariant.calls in let b = now.calls in omega arith;
+      ran = (
+        before.0 ++ here.0,
+        here.2 ∙ (ap (λ l. l ++ here.0) before.1 ∙ append_assoc ((g.D.Dict.hands c.args.context.now.dict.now).done c.args.hand.now) before.0 here.0),
+        rw (taken, here.3) (updates_snoc (take i lines) line before.0 here.0 c.loop-i.replies.items here.1 before.2 here.4),
+      );
+    }

@@ -1,0 +1,39 @@
+-- A job over a snapshot dictionary.
+use Rattle.std.specs.Prelude.{◌≡◌, ℕ, List, [], ◌∷◌, length, map, Option, Vec}
+use Rattle.std.specs.Ordering.{nat_cmp}
+use Rattle.std.specs.declared.alloc.Global.{Global}
+use Rattle.ck_history.specs.declared.update.Update.{Update}
+use Rattle.ck_history.specs.declared.update.Reply.{Reply}
+use Rattle.ck_history.specs.Map.{after, answer_after, replies}
+use Rattle.ck_history.specs.Legal.{AllLegal}
+use Rattle.ck_script.specs.declared.line.Numbered.{Numbered}
+use Rattle.ck_script.specs.declared.line.UpLine.{UpLine}
+use Rattle.ck_script.specs.declared.line.AskLine.{AskLine}
+use Rattle.ck_script.specs.Script.{said_of, Script, script_of}
+use Rattle.ck_snap.specs.Log.{Log, capacity}
+use Rattle.ck_snap.specs.Places.{ArePlacedIn}
+use Rattle.ck_snap.specs.Tokens.{Dictionary, WriterView, PassView, IsWriterOf, IsPassOf}
+use Rattle.ck_pool.specs.declared.answered.Answered.{Answered}
+use Rattle.ck_pool.specs.Meaning.{HandMeaning, EyeMeaning}
+
+-- what the pool sees of the ends of a snapshot dictionary
+abbrev pub snap_hand : Dictionary → HandMeaning WriterView (Update ℕ) Reply
+snap_hand snap = record { ready = λ w. IsWriterOf snap w; calls = λ w. w.calls; done = λ w. w.done }
+
+abbrev pub snap_eye : Dictionary → EyeMeaning PassView ℕ (Option ℕ)
+snap_eye snap = record { ready = λ p. IsPassOf snap p; number = λ p. p.number; calls = λ p. p.calls; done = λ p. p.done }
+
+-- each pass is tied to this log: its answers have places in it
+abbrev pub AreTied : Log → List PassView → Type 0
+AreTied log [] = Unit {0}
+AreTied log (p ∷ ps) = ArePlacedIn log p.done p.places × AreTied log ps
+
+-- what the lines of a job ask for
+abbrev pub job_script : {K : Type 0} → List (Numbered (UpLine (Update K))) → List (Vec (Numbered (AskLine K)) Global) → Script K
+job_script ups asks = script_of (said_of ups) (map said_of (map (λ file. file.items) asks))
+
+-- The replies are those of the map of one thread, the pairs are those of that map after all updates, and the answers of each file are legal
+pub record IsAnswered (script : Script ℕ) (x : Answered) : Type 0 where
+  pub replied : x.replies.items ≡ replies nat_cmp capacity script.updates
+  pub legal : AllLegal (length script.updates) (answer_after nat_cmp capacity script.updates) script.files (map (λ file. file.items) x.answers.items)
+  pub paired : x.pairs.items ≡ after nat_cmp capacity script.updates (length script.updates)

@@ -1,0 +1,130 @@
+//! Tasks in threads of their own.
+ghost use Rattle.std.specs.Prelude.{◌≡◌, ◌<◌, ◌≤◌, ◌^◌, ◌++◌, List, length, vec_len, IfOk, All};
+ghost use Rattle.ck_history.specs.declared.event.WriterEvent.{WriterEvent};
+ghost use Rattle.ck_pool.specs.Runs.{UpdatesRan, HoldReaders};
+ghost use Rattle.ck_pool.specs.Working.{AreOnDesk, IsWorker, IsWorked};
+
+use crate::context::Context;
+use crate::desk::Desk;
+use crate::dict::Dict;
+use crate::updates::run_updates;
+use crate::worker::{Worked, Worker, work};
+use ck_io::Gate;
+use ck_ring::Ring;
+use ck_script::{AskLine, Numbered, UpLine};
+use std::alloc::AllocError;
+use std::sync::Wait;
+use std::thread;
+use std::thread::{Threads, join_mut};
+
+// What a worker does. Where it finds no memory, the others are told.
+fn work_or_tell<D: Dict, G: Gate, R: Wait>(
+    context: &Context<D, G, R>,
+    desk: &Desk<D::Eye>,
+    ring: &Ring,
+    worker: Worker<D::Eye>,
+    asks: &[Vec<Numbered<AskLine<D::Ask>>>],
+) -> Result<Worked<D::Eye, D::Answer>, AllocError>
+    requires worker { IsWorker desk.now ring.now worker }
+    requires files { AreOnDesk (D.eyes context.now.dict.now) desk.now.eyes asks.now }
+    ensures { IfOk result (IsWorked (D.eyes context.now.dict.now) desk.now.eyes asks.now desk.now) }
+{
+    let worked = work(context, desk, ring, worker, asks);
+    if worked.is_err() {
+        context.shortage.raise();
+    }
+    worked
+}
+
+// What the task of the update file does. Where it finds no memory, the others are told.
+fn update_or_tell<D: Dict, G: Gate, R: Wait>(
+    context: &Context<D, G, R>,
+    hand: &mut D::Hand,
+    lines: &[Numbered<UpLine<D::Call>>],
+) -> Result<Vec<D::Reply>, AllocError>
+    requires ready { (D.hands context.now.dict.now).ready hand.old }
+    requires calls { ((D.hands context.now.dict.now).calls hand.old < 2 ^ 38) × (length lines.now ≤ 4000000) }
+    requires readers { HoldReaders (D.readers context.now.dict.now) lines.now }
+    ensures ready { (D.hands context.now.dict.now).ready hand.new }
+    ensures calls { (D.hands context.now.dict.now).calls hand.new < 2 ^ 39 }
+    ensures ran { IfOk result (λ replies. (events : List (WriterEvent D.Call D.Reply))
+        × ((D.hands context.now.dict.now).done hand.new ≡ (D.hands context.now.dict.now).done hand.old ++ events)
+        × UpdatesRan lines.now events replies.items) }
+{
+    let replies = run_updates(context, hand, lines);
+    if replies.is_err() {
+        context.shortage.raise();
+    }
+    replies
+}
+
+/// One task for each worker.
+pub fn work_all<D: Dict, G: Gate + Sync, R: Threads + Wait + Sync>(
+    context: &Context<D, G, R>,
+    desk: &Desk<D::Eye>,
+    ring: &Ring,
+    workers: &mut Vec<Worker<D::Eye>>,
+    asks: &[Vec<Numbered<AskLine<D::Ask>>>],
+) -> Result<Vec<Result<Worked<D::Eye, D::Answer>, AllocError>>, AllocError>
+    requires workers { All (IsWorker desk.now ring.now) workers.old.items }
+    requires files { AreOnDesk (D.eyes context.now.dict.now) desk.now.eyes asks.now }
+    ensures len { IfOk result (λ v. vec_len v ≡ vec_len workers.old) }
+    ensures each { IfOk result (λ v. All (λ one. IfOk one (IsWorked (D.eyes context.now.dict.now) desk.now.eyes asks.now desk.now)) v.items) }
+{
+    let team = std::mem::replace(workers, Vec::new(context.alloc));
+    let worked = thread::map_vec(
+        context.rt,
+        team,
+        &|worker: Worker<D::Eye>| -> Result<Worked<D::Eye, D::Answer>, AllocError>
+            requires { IsWorker desk.now ring.now worker × AreOnDesk (D.eyes context.now.dict.now) desk.now.eyes asks.now }
+            ensures { IfOk result (IsWorked (D.eyes context.entry.now.dict.now) desk.entry.now.eyes asks.entry.now desk.entry.now) }
+        { work_or_tell(context, desk, ring, worker, asks) },
+    );
+    // Here no worker has begun.
+    if worked.is_err() {
+        context.shortage.raise();
+    }
+    worked
+}
+
+/// The update file and the query files, side by side.
+pub fn run_both<D: Dict, G: Gate + Sync, R: Threads + Wait + Sync>(
+    context: &Context<D, G, R>,
+    hand: &mut D::Hand,
+    ups: &[Numbered<UpLine<D::Call>>],
+    desk: &Desk<D::Eye>,
+    ring: &Ring,
+    mut workers: Vec<Worker<D::Eye>>,
+    asks: &[Vec<Numbered<AskLine<D::Ask>>>],
+) -> (
+    Result<Vec<D::Reply>, AllocError>,
+    Result<Vec<Result<Worked<D::Eye, D::Answer>, AllocError>>, AllocError>,
+)
+    requires hand { (D.hands context.now.dict.now).ready hand.old × ((D.hands context.now.dict.now).calls hand.old < 2 ^ 38) × (length ups.now ≤ 4000000) × HoldReaders (D.readers context.now.dict.now) ups.now }
+    requires workers { All (IsWorker desk.now ring.now) workers.items }
+    requires files { AreOnDesk (D.eyes context.now.dict.now) desk.now.eyes asks.now }
+    ensures hand { (D.hands context.now.dict.now).ready hand.new × ((D.hands context.now.dict.now).calls hand.new < 2 ^ 39) }
+    ensures updates { IfOk result.0 (λ replies. (events : List (WriterEvent D.Call D.Reply))
+        × ((D.hands context.now.dict.now).done hand.new ≡ (D.hands context.now.dict.now).done hand.old ++ events)
+        × UpdatesRan ups.now events replies.items) }
+    ensures len { IfOk result.1 (λ v. vec_len v ≡ vec_len workers) }
+    ensures each { IfOk result.1 (λ v. All (λ one. IfOk one (IsWorked (D.eyes context.now.dict.now) desk.now.eyes asks.now desk.now)) v.items) }
+{
+    let mut updates = || -> Result<Vec<D::Reply>, AllocError>
+        requires { (D.hands context.now.dict.now).ready hand.now × ((D.hands context.now.dict.now).calls hand.now < 2 ^ 38) × (length ups.now ≤ 4000000) × HoldReaders (D.readers context.now.dict.now) ups.now }
+        ensures ready { (D.hands context.entry.now.dict.now).ready hand.exit.now }
+        ensures calls { (D.hands context.entry.now.dict.now).calls hand.exit.now < 2 ^ 39 }
+        ensures ran { IfOk result (λ replies. (events : List (WriterEvent D.Call D.Reply))
+            × ((D.hands context.entry.now.dict.now).done hand.exit.now ≡ (D.hands context.entry.now.dict.now).done hand.entry.now ++ events)
+            × UpdatesRan ups.entry.now events replies.items) }
+    { update_or_tell(context, hand, ups) };
+    let mut queries = move || -> Result<
+        Vec<Result<Worked<D::Eye, D::Answer>, AllocError>>,
+        AllocError,
+    >
+        requires { All (IsWorker desk.now ring.now) workers.items × AreOnDesk (D.eyes context.now.dict.now) desk.now.eyes asks.now }
+        ensures len { IfOk result (λ v. vec_len v ≡ vec_len workers.entry) }
+        ensures each { IfOk result (λ v. All (λ one. IfOk one (IsWorked (D.eyes context.entry.now.dict.now) desk.entry.now.eyes asks.entry.now desk.entry.now)) v.items) }
+    { work_all(context, desk, ring, &mut workers, asks) };
+    join_mut(context.rt, &mut updates, &mut queries)
+}

@@ -1,0 +1,128 @@
+//! A query file that is run.
+ghost use Rattle.std.specs.Prelude.{◌≡◌, ◌+◌, ◌<◌, ◌≤◌, ◌^◌, ◌∷◌, length, slice_get, IfOk, MatchOption, None};
+ghost use Rattle.ck_pool.specs.Desk.{occurrences, all_parts, IsClerkOf};
+ghost use Rattle.ck_pool.specs.Working.{IsFileRun, IsRun, AreOnDesk};
+
+use crate::context::Context;
+use crate::desk::{Clerk, Desk};
+use crate::dict::Dict;
+use crate::queries::{retry_wait, run_from};
+use ck_io::Gate;
+use ck_script::{AskLine, Numbered};
+use crossbeam_utils::Backoff;
+use std::alloc::AllocError;
+use std::sync::Wait;
+
+/// A file that a task has, with its eye and its answers so far, and the line of the `wait` at which it stands, unless it has ended.
+#[derive(Drop)]
+pub struct QueryRun<E, B> {
+    pub file: usize,
+    pub eye: E,
+    pub answers: Vec<B>,
+    pub waits_at: Option<usize>,
+}
+
+// Runs a file from its first line on.
+fn run_file<D: Dict, G: Gate, R: Wait>(
+    context: &Context<D, G, R>,
+    mut eye: D::Eye,
+    file: usize,
+    lines: &[Numbered<AskLine<D::Ask>>],
+) -> Result<QueryRun<D::Eye, D::Answer>, AllocError>
+    requires ready { (D.eyes context.now.dict.now).ready eye }
+    requires calls { (D.eyes context.now.dict.now).calls eye < 2 ^ 38 }
+    requires file { file < 2 ^ 63 }
+    requires lines { length lines.now ≤ 4000000 }
+    ensures file { IfOk result (λ r. r.file ≡ file) }
+    ensures run { IfOk result (λ r. IsFileRun (D.eyes context.now.dict.now) eye lines.now r) }
+{
+    let mut answers = Vec::new(context.alloc);
+    let who = file as u64 + 1;
+    let waits_at = run_from(context, who, &mut eye, lines, 0, &mut answers)?;
+    Ok(QueryRun {
+        file,
+        eye,
+        answers,
+        waits_at,
+    })
+}
+
+/// Takes a file's eye, and runs the file from its first line on. `None` where another has taken it.
+pub fn start<D: Dict, G: Gate, R: Wait>(
+    context: &Context<D, G, R>,
+    desk: &Desk<D::Eye>,
+    clerk: &mut Clerk<D::Eye>,
+    asks: &[Vec<Numbered<AskLine<D::Ask>>>],
+    file: usize,
+) -> Result<Option<QueryRun<D::Eye, D::Answer>>, AllocError>
+    requires clerk { IsClerkOf desk.now clerk.old }
+    requires files { AreOnDesk (D.eyes context.now.dict.now) desk.now.eyes asks.now }
+    requires file { file < length asks.now }
+    ensures clerk { IsClerkOf desk.now clerk.new × (clerk.new.known.parts ≡ clerk.old.known.parts) }
+    ensures ran { IfOk result (λ o. MatchOption o
+        ((clerk.new ≡ clerk.old) × (clerk.old.known.parts ≡ all_parts → occurrences file clerk.old.known.took ≡ 1))
+        (λ r. (r.file ≡ file) × IsRun (D.eyes context.now.dict.now) desk.now.eyes asks.now r × (clerk.new.known.took ≡ file ∷ clerk.old.known.took))) }
+{
+    let Some(eye) = desk.take(clerk, file) else {
+        return Ok(None);
+    };
+    let run = run_file(context, eye, file, &asks[file])?;
+    Ok(Some(run))
+}
+
+/// Loads once more where the file stands at a `wait`, and goes on where that meets it.
+pub fn load_again<D: Dict, G: Gate, R: Wait>(
+    context: &Context<D, G, R>,
+    desk: &Desk<D::Eye>,
+    asks: &[Vec<Numbered<AskLine<D::Ask>>>],
+    run: QueryRun<D::Eye, D::Answer>,
+) -> Result<QueryRun<D::Eye, D::Answer>, AllocError>
+    requires run { IsRun (D.eyes context.now.dict.now) desk.now.eyes asks.now run }
+    requires files { AreOnDesk (D.eyes context.now.dict.now) desk.now.eyes asks.now }
+    ensures file { IfOk result (λ r. r.file ≡ run.file) }
+    ensures run { IfOk result (λ r. IsRun (D.eyes context.now.dict.now) desk.now.eyes asks.now r) }
+{
+    let Some(at) = run.waits_at else {
+        return Ok(run);
+    };
+    let QueryRun {
+        file,
+        mut eye,
+        mut answers,
+        ..
+    } = run;
+    let who = file as u64 + 1;
+    let lines = asks[file].as_slice();
+    let waits_at = retry_wait(context, who, &mut eye, lines, at, &mut answers)?;
+    Ok(QueryRun {
+        file,
+        eye,
+        answers,
+        waits_at,
+    })
+}
+
+/// Runs a file to its end. The updates are made before or beside it, by another task.
+pub fn finish<D: Dict, G: Gate, R: Wait>(
+    context: &Context<D, G, R>,
+    desk: &Desk<D::Eye>,
+    asks: &[Vec<Numbered<AskLine<D::Ask>>>],
+    run: QueryRun<D::Eye, D::Answer>,
+) -> Result<QueryRun<D::Eye, D::Answer>, AllocError>
+    requires run { IsRun (D.eyes context.now.dict.now) desk.now.eyes asks.now run }
+    requires files { AreOnDesk (D.eyes context.now.dict.now) desk.now.eyes asks.now }
+    ensures file { IfOk result (λ r. r.file ≡ run.file) }
+    ensures run { IfOk result (λ r. IsRun (D.eyes context.now.dict.now) desk.now.eyes asks.now r) }
+    ensures ended { IfOk result (λ r. r.waits_at ≡ None) }
+{
+    let backoff = Backoff::new();
+    let mut run = run;
+    for _ in context.rt.forever() {
+        if run.waits_at.is_none() {
+            return Ok(run);
+        }
+        backoff.snooze();
+        run = load_again(context, desk, asks, run)?;
+    }
+    unreachable!()
+}

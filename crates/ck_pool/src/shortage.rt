@@ -1,0 +1,24 @@
+//! Want of memory, told from task to task. Nothing is claimed of it: what a task returns never rests on it.
+use std::sync::atomic::{AtomicBool, Ordering};
+
+/// A flag that a task raises which finds no memory, so that tasks that wait for it stop waiting.
+#[derive(Drop)]
+pub struct Shortage {
+    raised: AtomicBool,
+}
+
+impl Shortage {
+    pub fn new() -> Shortage {
+        Shortage {
+            raised: AtomicBool::new(false),
+        }
+    }
+
+    pub fn raise(&self) {
+        self.raised.store(true, Ordering::SeqCst);
+    }
+
+    pub fn is_raised(&self) -> bool {
+        self.raised.load(Ordering::SeqCst)
+    }
+}

@@ -1,0 +1,188 @@
+//! What a worker does: it takes files by the numbers that come through the ring, and runs each to its end.
+ghost use Rattle.std.specs.Prelude.{◌≡◌, ◌+◌, ◌<◌, ◌≤◌, ◌^◌, ℕ, length, vec_len, slice_get, [], true, IfOk, OnOk, None, Some};
+ghost use Rattle.ck_run.specs.Tokens.{table};
+ghost use Rattle.ck_pool.specs.declared.query.QueryRun.{QueryRun};
+ghost use Rattle.ck_pool.specs.Desk.{IsClerkOf};
+ghost use Rattle.ck_pool.specs.Working.{AreOnDesk, AreRuns, AreEnded, HasRuns, runs_of, IsWorked, IsWorker, MayDequeue, MayDequeueAgain};
+
+use crate::context::Context;
+use crate::desk::{Clerk, Desk};
+use crate::dict::Dict;
+use crate::query::{QueryRun, load_again, start};
+use ck_io::Gate;
+use ck_ring::{Consumer, Ring, Take};
+use ck_script::{AskLine, Numbered};
+use crossbeam_utils::Backoff;
+use std::alloc::AllocError;
+use std::sync::Wait;
+
+/// What a worker begins with.
+#[derive(Drop)]
+pub struct Worker<E> {
+    pub clerk: Clerk<E>,
+    pub consumer: Consumer,
+}
+
+/// What a worker ends with: the files that its clerk has taken.
+#[derive(Drop)]
+pub struct Worked<E, B> {
+    pub clerk: Clerk<E>,
+    pub runs: Vec<QueryRun<E, B>>,
+}
+
+// Asks the ring once for a number.
+fn dequeue(ring: &Ring, consumer: &mut Consumer) -> Take
+    requires table { table consumer.old ≡ ring.now }
+    requires may { MayDequeue consumer.old }
+    ensures table { table consumer.new ≡ ring.now }
+    ensures may { MayDequeueAgain result consumer.new }
+{
+    ring.try_dequeue(consumer)
+}
+
+// Takes the file of the next number, and runs it until it can't go on. False where there was no number.
+fn take_one<D: Dict, G: Gate, R: Wait>(
+    context: &Context<D, G, R>,
+    desk: &Desk<D::Eye>,
+    ring: &Ring,
+    clerk: &mut Clerk<D::Eye>,
+    consumer: &mut Consumer,
+    asks: &[Vec<Numbered<AskLine<D::Ask>>>],
+    runs: &mut Vec<QueryRun<D::Eye, D::Answer>>,
+) -> Result<bool, AllocError>
+    requires clerk { IsClerkOf desk.now clerk.old }
+    requires ring { (table consumer.old ≡ ring.now) × MayDequeue consumer.old }
+    requires files { AreOnDesk (D.eyes context.now.dict.now) desk.now.eyes asks.now }
+    requires each { AreRuns (D.eyes context.now.dict.now) desk.now.eyes asks.now runs.old.items }
+    requires all { HasRuns clerk.old runs.old.items }
+    ensures clerk { IsClerkOf desk.now clerk.new × (clerk.new.known.parts ≡ clerk.old.known.parts) }
+    ensures table { table consumer.new ≡ ring.now }
+    ensures may { IfOk result (λ more. more ≡ true → MayDequeue consumer.new) }
+    ensures each { OnOk result (AreRuns (D.eyes context.now.dict.now) desk.now.eyes asks.now runs.new.items) }
+    ensures all { OnOk result (HasRuns clerk.new runs.new.items) }
+{
+    match dequeue(ring, consumer) {
+        Take::Empty { .. } => return Ok(false),
+        Take::Lost { .. } => {}
+        Take::Item(number) => {
+            if number < asks.len() as u64 {
+                if let Some(run) = start(context, desk, clerk, asks, number as usize)? {
+                    runs.push(run)?;
+                }
+            }
+        }
+    }
+    Ok(true)
+}
+
+// Takes files until the ring is empty. Each is run until it can't go on before the next is taken.
+fn take_all<D: Dict, G: Gate, R: Wait>(
+    context: &Context<D, G, R>,
+    desk: &Desk<D::Eye>,
+    ring: &Ring,
+    clerk: &mut Clerk<D::Eye>,
+    mut consumer: Consumer,
+    asks: &[Vec<Numbered<AskLine<D::Ask>>>],
+    runs: &mut Vec<QueryRun<D::Eye, D::Answer>>,
+) -> Result<(), AllocError>
+    requires clerk { IsClerkOf desk.now clerk.old × (clerk.old.known.took ≡ []) }
+    requires ring { (table consumer ≡ ring.now) × MayDequeue consumer }
+    requires files { AreOnDesk (D.eyes context.now.dict.now) desk.now.eyes asks.now }
+    requires none { runs.old.items ≡ [] }
+    ensures clerk { IsClerkOf desk.now clerk.new × (clerk.new.known.parts ≡ clerk.old.known.parts) }
+    ensures each { OnOk result (AreRuns (D.eyes context.now.dict.now) desk.now.eyes asks.now runs.new.items) }
+    ensures all { OnOk result (HasRuns clerk.new runs.new.items) }
+{
+    for _ in context.rt.forever() {
+        if !take_one(context, desk, ring, clerk, &mut consumer, asks, runs)? {
+            return Ok(());
+        }
+    }
+    unreachable!()
+}
+
+// Whether all files have ended.
+fn all_ended<E, B>(runs: &[QueryRun<E, B>]) -> bool
+    ensures { result ≡ true → (k : ℕ) (r : QueryRun E B) → slice_get runs.now k ≡ Some r → r.waits_at ≡ None }
+{
+    for run in runs {
+        if run.waits_at.is_some() {
+            return false;
+        }
+    }
+    true
+}
+
+// Loads once more for each file that stands at a `wait`. The files move to the other vector, so that no round takes memory once both have grown.
+fn load_all<D: Dict, G: Gate, R: Wait>(
+    context: &Context<D, G, R>,
+    desk: &Desk<D::Eye>,
+    asks: &[Vec<Numbered<AskLine<D::Ask>>>],
+    runs: &mut Vec<QueryRun<D::Eye, D::Answer>>,
+    others: &mut Vec<QueryRun<D::Eye, D::Answer>>,
+) -> Result<(), AllocError>
+    requires files { AreOnDesk (D.eyes context.now.dict.now) desk.now.eyes asks.now }
+    requires each { AreRuns (D.eyes context.now.dict.now) desk.now.eyes asks.now runs.old.items }
+    requires none { others.old.items ≡ [] }
+    ensures each { OnOk result (AreRuns (D.eyes context.now.dict.now) desk.now.eyes asks.now others.new.items) }
+    ensures all { OnOk result ((f : ℕ) → runs_of f others.new.items ≡ runs_of f runs.old.items) }
+    ensures none { OnOk result (runs.new.items ≡ []) }
+{
+    while let Some(run) = runs.pop() {
+        let run = load_again(context, desk, asks, run)?;
+        others.push(run)?;
+    }
+    Ok(())
+}
+
+// Runs all files to their ends, in turn.
+fn finish_all<D: Dict, G: Gate, R: Wait>(
+    context: &Context<D, G, R>,
+    desk: &Desk<D::Eye>,
+    asks: &[Vec<Numbered<AskLine<D::Ask>>>],
+    runs: Vec<QueryRun<D::Eye, D::Answer>>,
+) -> Result<Vec<QueryRun<D::Eye, D::Answer>>, AllocError>
+    requires files { AreOnDesk (D.eyes context.now.dict.now) desk.now.eyes asks.now }
+    requires each { AreRuns (D.eyes context.now.dict.now) desk.now.eyes asks.now runs.items }
+    ensures each { IfOk result (λ v. AreEnded (D.eyes context.now.dict.now) desk.now.eyes asks.now v.items) }
+    ensures all { IfOk result (λ v. (f : ℕ) → runs_of f v.items ≡ runs_of f runs.items) }
+{
+    let backoff = Backoff::new();
+    let mut runs = runs;
+    let mut others = Vec::new(context.alloc);
+    for _ in context.rt.forever() {
+        if all_ended(&runs) {
+            return Ok(runs);
+        }
+        // The task of the updates may have ended for want of memory, and then the waits are never met.
+        if context.shortage.is_raised() {
+            return Err(AllocError);
+        }
+        backoff.snooze();
+        load_all(context, desk, asks, &mut runs, &mut others)?;
+        std::mem::swap(&mut runs, &mut others);
+    }
+    unreachable!()
+}
+
+/// Takes files until the ring is empty, and runs all of them to their ends.
+pub fn work<D: Dict, G: Gate, R: Wait>(
+    context: &Context<D, G, R>,
+    desk: &Desk<D::Eye>,
+    ring: &Ring,
+    worker: Worker<D::Eye>,
+    asks: &[Vec<Numbered<AskLine<D::Ask>>>],
+) -> Result<Worked<D::Eye, D::Answer>, AllocError>
+    requires worker { IsWorker desk.now ring.now worker }
+    requires files { AreOnDesk (D.eyes context.now.dict.now) desk.now.eyes asks.now }
+    ensures { IfOk result (IsWorked (D.eyes context.now.dict.now) desk.now.eyes asks.now desk.now) }
+{
+    let Worker {
+        mut clerk,
+        consumer,
+    } = worker;
+    let mut runs = Vec::new(context.alloc);
+    take_all(context, desk, ring, &mut clerk, consumer, asks, &mut runs)?;
+    let runs = finish_all(context, desk, asks, runs)?;
+    Ok(Worked { clerk, runs })
+}
