@@ -1,0 +1,11 @@
+mod Deciding
+mod Entries
+mod Filing
+mod Greedy
+mod Holding
+mod Named
+mod Placed
+mod Recalling
+mod Replaying
+mod Searching
+mod Touching

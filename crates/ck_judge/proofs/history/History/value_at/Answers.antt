@@ -1,0 +1,36 @@
+use Rattle.std.proofs.Common.{◌≡◌, ◌-◌, ◌<◌, arith, sym, subst, get_or, refl, true≢false}
+use Rattle.std.proofs.lemmas.Cmp.{tied_back}
+use Rattle.ck_judge.specs.Searches.{change_cmp, EndsAt}
+use Rattle.ck_judge.proofs.Recalling.{value_none, value_last}
+use Rattle.ck_judge.proofs.Searching.{past, change_found, last_within, last_latest}
+use Rattle.ck_judge.proofs.history.History.value_at.Goals as goal
+
+pub returns-then-at-eq0 : goal.returns-then-at-eq0
+returns-then-at-eq0 g c =
+    let total = g.met.K.Ord.total in
+    let ends = subst (λ cs. EndsAt (change_cmp g.K.Ord.cmp) cs (past total c.args.key.now c.args.place) c.first_not_below-at.result) c.as_slice-changes.ensures.value c.first_not_below-at.ensures in
+    value_none total c.args.self.now c.requires.history c.args.key.now c.args.place c.requires.within
+    (λ e there equal low. let pos = change_found total c.args.key.now _ c.args.place _ ends e there equal low in omega (arith, pos, c.if-at-eq0.true))
+
+pub returns-then-same_key : goal.returns-then-same_key
+returns-then-same_key g c =
+    let total = g.met.K.Ord.total in
+    let at = c.first_not_below-at.result in
+    let last = c.index-changes-at.result in
+    let ends = subst (λ cs. EndsAt (change_cmp g.K.Ord.cmp) cs (past total c.args.key.now c.args.place) at) c.as_slice-changes.ensures.value c.first_not_below-at.ensures in
+    let is = subst (λ cs. last ≡ get_or cs (at - 1) last) c.as_slice-changes.ensures.value c.index-changes-at.is in
+    let pos : 0 < at = omega (arith, c.if-at-eq0.false) in
+    let equal = c.if-same_key.ensures.0 refl in
+    value_last total c.args.self.now c.requires.history c.args.key.now c.args.place c.requires.within last (at - 1, omega (arith, pos, ends.bound), sym is) (tied_back total last.key c.args.key.now equal)
+    (last_within total c.args.key.now _ c.args.place _ ends last pos is equal)
+    (λ e there alike low. (last_latest total c.args.key.now _ c.args.place _ ends e last there alike low is).1)
+
+pub returns-else-same_key : goal.returns-else-same_key
+returns-else-same_key g c =
+    let total = g.met.K.Ord.total in
+    let at = c.first_not_below-at.result in
+    let last = c.index-changes-at.result in
+    let ends = subst (λ cs. EndsAt (change_cmp g.K.Ord.cmp) cs (past total c.args.key.now c.args.place) at) c.as_slice-changes.ensures.value c.first_not_below-at.ensures in
+    let is = subst (λ cs. last ≡ get_or cs (at - 1) last) c.as_slice-changes.ensures.value c.index-changes-at.is in
+    value_none total c.args.self.now c.requires.history c.args.key.now c.args.place c.requires.within
+    (λ e there alike low. true≢false (sym (c.if-same_key.ensures.1 (last_latest total c.args.key.now _ c.args.place _ ends e last there alike low is).0)))

@@ -1,0 +1,7 @@
+use Rattle.std.proofs.Common.{◌≡◌, ◌++◌, drop}
+use Rattle.ck_script.specs.Script.{said_of, updates}
+use Rattle.ck_judge.proofs.replay.list_updates.Given as goal
+
+-- the updates so far, and those that are left
+abbrev pub invariant-loop-line : goal.invariant-loop-line
+invariant-loop-line g l = l.us.items ++ updates (said_of (drop l.line-index l.ups)) ≡ updates (said_of l.ups)

@@ -1,0 +1,16 @@
+//! A judge of reports: whether a report could have come from given scripts, under some interleaving of the writer and
+//! the readers. `specs/Verdict.antt` says what each verdict means.
+#![tactic(auto)]
+
+mod bounds;
+mod changes;
+mod difference;
+mod files;
+mod history;
+mod places;
+mod replay;
+#[cfg(test)]
+mod tests;
+mod verdict;
+
+pub use verdict::{Places, Verdict, judge};
