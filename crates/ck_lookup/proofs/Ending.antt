@@ -1,44 +1,81 @@
 -- From what each part of a run says to why the run ends as it does.
-use Rattle.std.proofs.Common.{◌≡◌, ℕ, zero, suc, ◌+◌, ◌<◌, ◌≤◌, List, [], ◌∷◌, length, map, take, Option, Some, None, Result, Ok, Err, IfOk, IfErr, Vec, Global, refl, ap, subst, sym, ◌∙◌, arith, inl, inr}
+use Rattle.std.proofs.Common.{◌≡◌, ℕ, zero, suc, ◌+◌, ◌≤◌, List, [], ◌∷◌, ◌++◌, map, take, Option, Some, None, Result, Ok, Err, IfOk, IfErr, OnOk, refl, ap, subst, ◌∙◌, arith, inl, inr, decimal}
 use Rattle.std.specs.List.{AllByRecursion}
-use Rattle.std.proofs.lemmas.List.{length-map, length-take-le}
 use Rattle.std.proofs.lemmas.List.Sums.{sum_by-take-le}
-use Rattle.std.specs.Prelude.{slice_get}
-use Rattle.std.proofs.lemmas.List.{take_all}
+use Rattle.std.specs.Prelude.{length, slice_get}
+use Rattle.ck_io.specs.Sink.{appended}
+use Rattle.ck_history.specs.Key.{IsKey}
+use Rattle.ck_history.specs.declared.update.Update.{Update}
 use Rattle.ck_script.specs.declared.fault.ScriptFault.{ScriptFault}
+use Rattle.ck_script.specs.declared.line.Numbered.{Numbered}
+use Rattle.ck_script.specs.declared.line.UpLine.{UpLine}
+use Rattle.ck_script.specs.declared.line.AskLine.{AskLine}
+use Rattle.ck_script.specs.Checks.{range_fault}
+use Rattle.ck_script.specs.Grammar.{FileSays, IsUpdateLine, update_words, IsQueryLine, query_words}
+use Rattle.ck_script.specs.Keys.{one_table_key}
+use Rattle.ck_script.specs.Script.{QueriesSay, said_of}
+use Rattle.ck_script.proofs.Meaning.{one_update_file, one_query_file}
 use Rattle.ck_script.proofs.Saying.{no_first_fault}
 use Rattle.ck_lookup.specs.declared.outcome.Outcome.{Outcome}
 use Rattle.ck_lookup.specs.declared.outcome.Outcome.TheVariants.{Done, Usage, ReadFault, BadScript, TooLarge, WriteFault, NoMemory}
 use Rattle.ck_lookup.specs.Headline.{IsReport}
 use Rattle.ck_lookup.specs.Limits.{AreWithin, line_count}
 use Rattle.ck_command.specs.Words.{Command, names}
-use Rattle.ck_lookup.specs.Causes.{Tells, TellsFirst, AreFirstWithin, AreAllWithin, IsTooLarge, IsReadFault, HasBadScript, IsBadScript, IsBadLine, IsBeyondLine, IsLawful, IsFaultOf, Outside, Ends, IsClear, IsDoneOrNoMemory}
-use Rattle.ck_lookup.specs.Fetching.{AreRead}
-use Rattle.ck_lookup.specs.Running.{IsRefusedScript, IsRefusedRun}
-use Rattle.ck_lookup.proofs.Told.{read_told, first_within}
+use Rattle.ck_lookup.specs.Causes.{Tells, AreRead, AreSaid, AreAccepted, IsBadScript, IsLawful, IsFaultOf, HasReport, Outside, Ends, IsClear, IsDoneOrNoMemory}
+use Rattle.ck_lookup.specs.Running.{AreRunnable, IsRefusedScript, IsRefusedRun, text_of}
+use Rattle.ck_lookup.proofs.Reporting.{report_of_scripts}
+use Rattle.ck_lookup.proofs.Told.{read_told}
 
 module _ (held : List ℕ → Option (List ℕ)) (names : List (List ℕ)) where
-  -- all files that were read are within the limits
-  pub all_within : (files : List (List ℕ)) → AreRead held names files → AreWithin files → AreAllWithin held names
-  all_within files read within =
-      first_within held names (length names) files (subst (λ ns. AreRead held ns files) (sym (take_all (length names) names (omega arith))) read) within
-
-  -- what the shelf tells of them is what was read
-  pub told_files : (files : List (List ℕ)) (u : List ℕ) (qs : List (List ℕ)) → AreRead held names files → Tells held names u qs → files ≡ u ∷ qs
-  told_files files u qs read tells = sym (read_told held names files (u ∷ qs) read tells)
+  -- what the shelf tells of files is what was read
+  told_files : (u : List ℕ) (qs : List (List ℕ)) (v : List ℕ) (rs : List (List ℕ)) → AreRead held names (v ∷ rs) → Tells held names u qs → (v ≡ u) × (rs ≡ qs)
+  told_files u qs v rs read tells =
+      let same : u ∷ qs ≡ v ∷ rs = read_told held names (v ∷ rs) (u ∷ qs) read tells in
+      let head : v ≡ u = cc in
+      let tail : rs ≡ qs = cc in
+      (head, tail)
 
   -- a refused script
-  pub refused_script : (files : List (List ℕ)) (before after : List ℕ → ℕ) (o : Outcome) → AreRead held names files → AreWithin files → ((u : List ℕ) (qs : List (List ℕ)) → files ≡ u ∷ qs → IsRefusedScript u qs o) → (head : List ℕ) (tail : List (List ℕ)) → files ≡ head ∷ tail → IsRefusedRun held names before after o
-  refused_script files before after (BadScript file line why) read within refused head tail is = (
-    all_within files read within,
-    λ u qs tells. refused u qs (told_files files u qs read tells),
+  pub refused_script : (files : List (List ℕ)) (before after : List ℕ → ℕ) (o : Outcome) (u : List ℕ) (qs : List (List ℕ)) → files ≡ u ∷ qs → AreRead held names files → AreWithin files → after ≡ before → IsRefusedScript u qs o → IsRefusedRun held names before after o
+  refused_script files before after (BadScript file line why) u qs is read within fetched refused = (
+    fetched,
+    record { update_file = u; query_files = qs; read = subst (AreRead held names) is read; within = subst AreWithin is within; first = refused },
   )
-  refused_script files before after NoMemory read within refused head tail is = tt
-  refused_script files before after Done read within refused head tail is = refused head tail is
-  refused_script files before after Usage read within refused head tail is = refused head tail is
-  refused_script files before after (ReadFault file) read within refused head tail is = absurd (refused head tail is)
-  refused_script files before after (TooLarge file) read within refused head tail is = absurd (refused head tail is)
-  refused_script files before after WriteFault read within refused head tail is = refused head tail is
+  refused_script files before after NoMemory u qs is read within fetched refused = tt
+  refused_script files before after Done u qs is read within fetched refused = absurd refused
+  refused_script files before after Usage u qs is read within fetched refused = absurd refused
+  refused_script files before after (ReadFault file) u qs is read within fetched refused = absurd refused
+  refused_script files before after (TooLarge file) u qs is read within fetched refused = absurd refused
+  refused_script files before after WriteFault u qs is read within fetched refused = absurd refused
+
+  -- scripts that were read
+  pub runnable : (files : List (List ℕ)) (u : List ℕ) (qs : List (List ℕ)) (ups : List (Numbered (UpLine (Update ℕ)))) (asks : List (List (Numbered (AskLine ℕ)))) → files ≡ u ∷ qs → AreRead held names files → AreWithin files → AreSaid u qs ups asks → AreRunnable held names ups asks
+  runnable files u qs ups asks is read within said = record {
+    update_file = u;
+    query_files = qs;
+    read = subst (AreRead held names) is read;
+    within = subst AreWithin is within;
+    said = said;
+  }
+
+  -- the text of what they say is a report
+  pub runnable_report : (ups : List (Numbered (UpLine (Update ℕ)))) (asks : List (List (Numbered (AskLine ℕ)))) → AreRunnable held names ups asks → HasReport held names (text_of (said_of ups) (map said_of asks))
+  runnable_report ups asks r = record {
+    update_file = r.update_file;
+    query_files = r.query_files;
+    read = r.read;
+    accepted = record { within = r.within; ups = ups; asks = asks; said = r.said };
+    report = report_of_scripts r.update_file r.query_files ups asks _ r.said.updates_said r.said.queries_said r.said.in_range refl;
+  }
+
+  -- a report of the files that there are is one of the files that are told
+  told_report : (text : List ℕ) (u : List ℕ) (qs : List (List ℕ)) → HasReport held names text → Tells held names u qs → AreAccepted u qs × IsReport u qs text
+  told_report text u qs has tells =
+      let same = told_files u qs has.update_file has.query_files has.read tells in
+      (
+        subst (λ q. AreAccepted u q) same.1 (subst (λ v. AreAccepted v has.query_files) same.0 has.accepted),
+        subst (λ q. IsReport u q text) same.1 (subst (λ v. IsReport v has.query_files text) same.0 has.report),
+      )
 
 -- files that were read under names, of which there is one, are one and others
 pub some_read : (held : List ℕ → Option (List ℕ)) (name : List ℕ) (names files : List (List ℕ)) → AreRead held (name ∷ names) files → (head : List ℕ) × (tail : List (List ℕ)) × (files ≡ head ∷ tail)
@@ -75,22 +112,52 @@ first_of_within files n within = record {
   few_lines_in_all = omega (arith, sum_by-take-le line_count files n, within.few_lines_in_all);
 }
 
+-- query files say one thing
+one_queries : (files : List (List ℕ)) (a b : List (List (Numbered (AskLine ℕ)))) → QueriesSay IsKey decimal files a → QueriesSay IsKey decimal files b → a ≡ b
+one_queries [] [] [] says also = refl
+one_queries [] [] (y ∷ b) says also = absurd also
+one_queries [] (x ∷ a) b says also = absurd says
+one_queries (f ∷ files) [] b says also = absurd says
+one_queries (f ∷ files) (x ∷ a) [] says also = absurd also
+one_queries (f ∷ files) (x ∷ a) (y ∷ b) says also =
+    ap (λ z. z ∷ a) (one_query_file IsKey decimal one_table_key f x y says.0 also.0) ∙ ap (λ zs. y ∷ zs) (one_queries files a b says.1 also.1)
+
+-- each of the files that say something is in the grammar
+lawful_query : (files : List (List ℕ)) (asks : List (List (Numbered (AskLine ℕ)))) (i : ℕ) (bytes : List ℕ) → QueriesSay IsKey decimal files asks → slice_get files i ≡ Some bytes → IsLawful 1 bytes
+lawful_query [] asks i bytes says named = absurd (cc)
+lawful_query (f ∷ files) [] i bytes says named = absurd says
+lawful_query (f ∷ files) (a ∷ asks) zero bytes says named = let same : f ≡ bytes = cc in (a, subst (λ b. FileSays (IsQueryLine IsKey) (query_words decimal) b a) same says.0)
+lawful_query (f ∷ files) (a ∷ asks) (suc i) bytes says named = lawful_query files asks i bytes says.1 named
+
+lawful_file : (u : List ℕ) (qs : List (List ℕ)) → AreAccepted u qs → (i : ℕ) (bytes : List ℕ) → slice_get (u ∷ qs) i ≡ Some bytes → IsLawful i bytes
+lawful_file u qs accepted zero bytes named = let same : u ≡ bytes = cc in (accepted.ups, subst (λ b. FileSays (IsUpdateLine IsKey) (update_words decimal) b accepted.ups) same accepted.said.updates_said)
+lawful_file u qs accepted (suc i) bytes named = lawful_query qs accepted.asks i bytes accepted.said.queries_said named
+
+-- files of which nothing is refused have no first fault
+no_bad_script : (u : List ℕ) (qs : List (List ℕ)) (file : ℕ) (fault : ScriptFault) → AreAccepted u qs → IsBadScript u qs file fault → ⊥
+no_bad_script u qs file fault accepted (inl bad) = no_fault file bad.bytes fault (lawful_file u qs accepted file bad.bytes bad.here) bad.first
+no_bad_script u qs file fault accepted (inr beyond) =
+    let ups_same : accepted.ups ≡ beyond.ups = one_update_file IsKey decimal one_table_key u accepted.ups beyond.ups accepted.said.updates_said beyond.updates_said in
+    let asks_same : accepted.asks ≡ beyond.asks = one_queries qs accepted.asks beyond.asks accepted.said.queries_said beyond.queries_said in
+    let none : range_fault beyond.ups beyond.asks ≡ None = subst (λ a. range_fault beyond.ups a ≡ None) asks_same (subst (λ l. range_fault l accepted.asks ≡ None) ups_same accepted.said.in_range) in
+    let some = beyond.first in
+    absurd (cc)
+
 -- where nothing stands against a whole report, the run is done or finds no memory
 complete : (o : Outside) (ns : List (List ℕ)) (outcome : Outcome) (u : List ℕ) (qs : List (List ℕ)) → Ends o ns outcome → IsClear o ns u qs → IsDoneOrNoMemory outcome
 complete o ns Done u qs ends clear = inl refl
 complete o ns Usage u qs ends clear = absurd ends
 complete o ns (ReadFault file) u qs ends clear = absurd (clear.read ends.0.name ends.0.rose)
 complete o ns (TooLarge file) u qs ends clear =
-    let files = u ∷ qs in
-    let some : List ℕ → Option (List ℕ) = Some in
-    let many : file + 1 ≤ length files = omega (arith, ends.0.named, length-map ns o.held, length-map files some, ap length clear.told) in
-    let count = length-take-le (file + 1) files many in
-    let tells : TellsFirst o.held ns (take (file + 1) files) = subst (λ n. map o.held (take n ns) ≡ map Some (take (file + 1) files)) (sym count) (tells_first o.held ns files (file + 1) clear.told) in
-    absurd (ends.0.past (take (file + 1) files) count tells (first_of_within files (file + 1) clear.within))
-complete o ns (BadScript file line why) u qs ends clear = elim (ends.0.1 u qs clear.told) [
-  | inl bad ↦ absurd (no_fault file bad.bytes _ (clear.lawful file bad.bytes bad.here) bad.first)
-  | inr beyond ↦ let none = clear.in_range beyond.ups beyond.asks beyond.updates_said beyond.queries_said in let some = beyond.first in absurd (cc)
-]
+    let large = ends.1 in
+    let tells = tells_first o.held ns (u ∷ qs) (file + 1) clear.told in
+    let same : take (file + 1) (u ∷ qs) ≡ large.earlier ++ large.bytes ∷ [] = read_told o.held (take (file + 1) ns) (large.earlier ++ large.bytes ∷ []) (take (file + 1) (u ∷ qs)) large.read tells in
+    absurd (large.past (subst AreWithin same (first_of_within (u ∷ qs) (file + 1) clear.accepted.within)))
+complete o ns (BadScript file line why) u qs ends clear =
+    let bad = ends.1 in
+    let same = told_files o.held ns u qs bad.update_file bad.query_files bad.read clear.told in
+    let first = subst (λ q. IsBadScript u q file (record { line = line; why = why })) same.1 (subst (λ v. IsBadScript v bad.query_files file (record { line = line; why = why })) same.0 bad.first) in
+    absurd (no_bad_script u qs file (record { line = line; why = why }) clear.accepted first)
 complete o ns WriteFault u qs ends clear = absurd (clear.written ends.1)
 complete o ns NoMemory u qs ends clear = inr refl
 
@@ -100,17 +167,31 @@ complete_asked o words c asked outcome u qs is also ends clear =
     let same : c ≡ asked = cc in
     complete o (names asked) outcome u qs (subst (λ k. Ends o (names k) outcome) same ends) clear
 
--- facts about an answer, whatever it is
-pub ok_always : {T E : Type 0} (r : Result T E) (P : Type 0) → P → IfOk r (λ _. P)
-ok_always (Ok x) P p = p
-ok_always (Err e) P p = tt
+-- where the run is done and the shelf tells the files, the sink took a report of them
+report_told : (o : Outside) (ns : List (List ℕ)) (outcome : Outcome) (u : List ℕ) (qs : List (List ℕ)) → Ends o ns outcome → Tells o.held ns u qs → outcome ≡ Done
+    → AreAccepted u qs × ((text : List ℕ) × IsReport u qs text × (o.taken_after ≡ appended o.taken_before text))
+report_told o ns outcome u qs ends tells done =
+    let whole : Ends o ns Done = subst (Ends o ns) done ends in
+    let put = whole.1 in
+    let told = told_report o.held ns put.0 u qs put.1 tells in
+    (told.0, (put.0, told.1, put.2))
 
--- a report that has been read under every pair of files that are told
-pub ok_each : {T E : Type 0} (r : Result T E) (text : T → List ℕ) (Told : List ℕ → List (List ℕ) → Type 0) → ((u : List ℕ) (qs : List (List ℕ)) → Told u qs → IfOk r (λ x. IsReport u qs (text x))) → IfOk r (λ x. (u : List ℕ) (qs : List (List ℕ)) → Told u qs → IsReport u qs (text x))
-ok_each (Ok x) text Told report = report
-ok_each (Err e) text Told report = tt
+-- the same, of a command that the words give
+pub report_asked : (o : Outside) (words : Option Command) (c asked : Command) (outcome : Outcome) (u : List ℕ) (qs : List (List ℕ)) → words ≡ Some c → words ≡ Some asked → Ends o (names c) outcome → Tells o.held (names asked) u qs → outcome ≡ Done
+    → AreAccepted u qs × ((text : List ℕ) × IsReport u qs text × (o.taken_after ≡ appended o.taken_before text))
+report_asked o words c asked outcome u qs is also ends tells done =
+    let same : c ≡ asked = cc in
+    report_told o (names asked) outcome u qs (subst (λ k. Ends o (names k) outcome) same ends) tells done
 
--- a refusal that has been read under every pair of files
-pub err_each : {T E : Type 0} {P : List ℕ → List (List ℕ) → Type 0} {Q : List ℕ → List (List ℕ) → E → Type 0} (r : Result T E) (R : E → Type 0) → ((o : E) → ((u : List ℕ) (qs : List (List ℕ)) → P u qs → Q u qs o) → R o) → ((u : List ℕ) (qs : List (List ℕ)) → P u qs → IfErr r (Q u qs)) → IfErr r R
-err_each (Ok x) R from each = tt
-err_each (Err o) R from each = from o each
+-- what an answer says, as something else
+pub ok_more : {T E : Type 0} {P Q : T → Type 0} (r : Result T E) → ((x : T) → P x → Q x) → IfOk r P → IfOk r Q
+ok_more (Ok x) more p = more x p
+ok_more (Err e) more p = tt
+
+pub err_more : {T E : Type 0} {P Q : E → Type 0} (r : Result T E) → ((e : E) → P e → Q e) → IfErr r P → IfErr r Q
+err_more (Ok x) more p = tt
+err_more (Err e) more p = more e p
+
+pub ok_each : {T E : Type 0} (r : Result T E) (P : Type 0) → P → OnOk r P
+ok_each (Ok x) P p = p
+ok_each (Err e) P p = tt

@@ -1,16 +1,17 @@
 -- Files that are read one after another, and what is told of them.
-use Rattle.std.proofs.Common.{◌≡◌, ℕ, zero, suc, ◌+◌, ◌<◌, List, [], ◌∷◌, ◌++◌, length, map, take, get_or, Option, Some, None, IfSome, refl, ap, subst, sym, ◌∙◌, arith, add-one}
+use Rattle.std.proofs.Common.{◌≡◌, ℕ, zero, suc, ◌+◌, ◌<◌, ◌≤◌, List, [], ◌∷◌, ◌++◌, length, map, take, get_or, replicate, Option, Some, None, IfSome, refl, ap, subst, sym, ◌∙◌, arith, add-one}
 use Rattle.std.specs.Prelude.{slice_get}
-use Rattle.std.proofs.lemmas.List.{take-map}
+use Rattle.std.proofs.lemmas.List.{take-map, length-replicate}
 use Rattle.std.proofs.lemmas.Option.{slice_get_within, get_or_from_slice_get}
 use Rattle.std.proofs.Math.Seq.{take-suc}
-use Rattle.ck_io.specs.Faults.{NeverFall}
+use Rattle.ck_io.specs.Faults.{Rose}
 use Rattle.ck_lookup.specs.declared.outcome.Outcome.{Outcome}
 use Rattle.ck_lookup.specs.declared.outcome.Outcome.TheVariants.{Done, Usage, ReadFault, BadScript, TooLarge, WriteFault, NoMemory}
-use Rattle.ck_lookup.specs.Limits.{AreWithin}
-use Rattle.ck_lookup.specs.Causes.{AreFirstWithin, IsTooLarge}
-use Rattle.ck_lookup.specs.Fetching.{AreRead, IsRefusedNext}
+use Rattle.ck_lookup.specs.Limits.{AreWithin, most_bytes}
+use Rattle.ck_lookup.specs.Causes.{AreRead, AreFirstWithin, IsTooLarge, IsReadFault}
+use Rattle.ck_lookup.specs.Fetching.{IsPast, IsRefusedNext}
 use Rattle.ck_lookup.specs.Running.{IsRefusedRun}
+use Rattle.ck_lookup.proofs.Within.{too_long_past}
 
 -- bytes that were read are the bytes that are told
 pub read_is_told : (o : Option (List ℕ)) (bytes told : List ℕ) → IfSome o (λ held. bytes ≡ held) → o ≡ Some told → told ≡ bytes
@@ -37,54 +38,51 @@ module _ (told : List ℕ → Option (List ℕ)) where
       let later : map told ns ≡ map Some ts = cc in
       ap (λ x. x ∷ ts) (read_is_told (told n) f t read.0 here) ∙ ap (λ xs. f ∷ xs) (read_told ns files ts read.1 later)
 
-  -- and of one more name
-  pub past_told : (ns : List (List ℕ)) (name : List ℕ) (files ts : List (List ℕ)) → AreRead told ns files → map told (ns ++ name ∷ []) ≡ map Some ts → (t : List ℕ) × (ts ≡ files ++ t ∷ []) × (told name ≡ Some t)
-  past_told [] name [] [] read tells = absurd (cc)
-  past_told [] name [] (t ∷ []) read tells = let here : told name ≡ Some t = cc in (t, refl, here)
-  past_told [] name [] (t ∷ u ∷ ts) read tells = absurd (cc)
-  past_told [] name (f ∷ files) ts read tells = absurd read
-  past_told (n ∷ ns) name [] ts read tells = absurd read
-  past_told (n ∷ ns) name (f ∷ files) [] read tells = absurd (cc)
-  past_told (n ∷ ns) name (f ∷ files) (t ∷ ts) read tells =
-      let here : told n ≡ Some t = cc in
-      let later : map told (ns ++ name ∷ []) ≡ map Some ts = cc in
-      let rest = past_told ns name files ts read.1 later in
-      (rest.0, ap (λ x. x ∷ ts) (read_is_told (told n) f t read.0 here) ∙ ap (λ xs. f ∷ xs) rest.1, rest.2)
+-- a file that was read and is past a limit, or of which more was read than one may have
+pub past_read : (told : Option (List ℕ)) (old : List (List ℕ)) (bytes : List ℕ) → IfSome told (λ all. bytes ≡ all) → (AreWithin (old ++ bytes ∷ []) → ⊥) → IsPast told old
+past_read told old bytes read past = (bytes, read, past)
+
+untold_past : (n : ℕ) (old : List (List ℕ)) → most_bytes < n → IsPast None old
+untold_past n old long = (replicate n 0, tt, too_long_past old (replicate n 0) (subst (λ k. most_bytes < k) (sym (length-replicate n 0)) long))
+
+pub past_too_long : (told : Option (List ℕ)) (old : List (List ℕ)) → IfSome told (λ all. most_bytes < length all) → IsPast told old
+past_too_long (Some all) old long = (all, refl, too_long_past old all long)
+past_too_long None old long = untold_past (most_bytes + 1) old (omega arith)
 
 module _ (held : List ℕ → Option (List ℕ)) (names : List (List ℕ)) where
   -- the files that were read are within the limits
   pub first_within : (n : ℕ) (files : List (List ℕ)) → AreRead held (take n names) files → AreWithin files → AreFirstWithin held names n
-  first_within n files read within ts count tells =
-      let first : map held (take n names) ≡ map Some ts = subst (λ k. map held (take k names) ≡ map Some ts) count tells in
-      subst AreWithin (sym (read_told held (take n names) files ts read first)) within
+  first_within n files read within = record { files = files; read = read; within = within }
 
   -- the next file would be past a limit
-  pub next_too_large : (n : ℕ) (name : List ℕ) (files : List (List ℕ)) → slice_get names n ≡ Some name → AreRead held (take n names) files → AreWithin files → IfSome (held name) (λ bytes. AreWithin (files ++ bytes ∷ []) → ⊥) → IsTooLarge held names n
-  next_too_large n name files named read within past = record {
-    named = slice_get_within names n name named;
-    earlier = first_within n files read within;
-    past = λ ts count tells ts_within.
-        let first : map held (take (suc n) names) ≡ map Some ts = subst (λ k. map held (take k names) ≡ map Some ts) (count ∙ add-one n) tells in
-        let taken : take (suc n) names ≡ take n names ++ name ∷ [] = take-suc names n name (slice_get_within names n name named) ∙ ap (λ x. take n names ++ x ∷ []) (get_or_from_slice_get names n name name named) in
-        let more = past_told held (take n names) name files ts read (subst (λ ns. map held ns ≡ map Some ts) taken first) in
-        let none : AreWithin (files ++ more.0 ∷ []) → ⊥ = subst (λ o. IfSome o (λ bytes. AreWithin (files ++ bytes ∷ []) → ⊥)) more.2 past in
-        none (subst AreWithin more.1 ts_within);
-  }
+  pub next_too_large : (n : ℕ) (name : List ℕ) (files : List (List ℕ)) → slice_get names n ≡ Some name → AreRead held (take n names) files → AreWithin files → IsPast (held name) files → IsTooLarge held names n
+  next_too_large n name files named read within past =
+      let below : n < length names = slice_get_within names n name named in
+      let taken : take (suc n) names ≡ take n names ++ name ∷ [] = take-suc names n name below ∙ ap (λ x. take n names ++ x ∷ []) (get_or_from_slice_get names n name name named) in
+      let more : AreRead held (take (suc n) names) (files ++ past.0 ∷ []) = subst (λ ns. AreRead held ns (files ++ past.0 ∷ [])) (sym taken) (read_push held (take n names) name files past.0 read past.1) in
+      record {
+        named = below;
+        earlier = files;
+        bytes = past.0;
+        read = subst (λ k. AreRead held (take k names) (files ++ past.0 ∷ [])) (sym (add-one n)) more;
+        within = within;
+        past = past.2;
+      }
 
   -- the next file was refused
-  pub refused_next : (before now after : List ℕ → ℕ) (n : ℕ) (name : List ℕ) (files : List (List ℕ)) (o : Outcome) → slice_get names n ≡ Some name → AreRead held (take n names) files → AreWithin files → NeverFall before now → IsRefusedNext n (held name) files (now name) (after name) o → IsRefusedRun held names before after o
-  refused_next before now after n name files (ReadFault f) named read within lasting refused = record {
+  pub refused_next : (before now after : List ℕ → ℕ) (n : ℕ) (name : List ℕ) (files : List (List ℕ)) (o : Outcome) → slice_get names n ≡ Some name → AreRead held (take n names) files → AreWithin files → now ≡ before → IsRefusedNext n name (held name) files now after o → IsRefusedRun held names before after o
+  refused_next before now after n name files (ReadFault f) named read within fetched refused = record {
     name = name;
     named = rw refused.0 named;
-    rose = omega (arith, lasting name, refused.1);
+    rose = subst (λ counts. Rose (counts name) (after name)) fetched refused.1;
     earlier = rw refused.0 (first_within n files read within);
   }
-  refused_next before now after n name files (TooLarge f) named read within lasting refused = rw refused.0 (next_too_large n name files named read within refused.1)
-  refused_next before now after n name files NoMemory named read within lasting refused = tt
-  refused_next before now after n name files Done named read within lasting refused = absurd refused
-  refused_next before now after n name files Usage named read within lasting refused = absurd refused
-  refused_next before now after n name files (BadScript f line why) named read within lasting refused = absurd refused
-  refused_next before now after n name files WriteFault named read within lasting refused = absurd refused
+  refused_next before now after n name files (TooLarge f) named read within fetched refused = (refused.1 ∙ fetched, rw refused.0 (next_too_large n name files named read within refused.2))
+  refused_next before now after n name files NoMemory named read within fetched refused = tt
+  refused_next before now after n name files Done named read within fetched refused = absurd refused
+  refused_next before now after n name files Usage named read within fetched refused = absurd refused
+  refused_next before now after n name files (BadScript f line why) named read within fetched refused = absurd refused
+  refused_next before now after n name files WriteFault named read within fetched refused = absurd refused
 
 -- names of query files, as they are kept
 module _ {N : Type 0} (name_of : N → List ℕ) where
@@ -106,9 +104,9 @@ module _ {N : Type 0} (name_of : N → List ℕ) where
       rw (added, add-one, names_more queries i d lt) (read_push held (updates ∷ map name_of (take i queries)) (name_of (get_or queries i d)) files file read here)
 
   -- the next query file was refused
-  pub refused_query : (held : List ℕ → Option (List ℕ)) (updates : List ℕ) (queries : List N) (before now after : List ℕ → ℕ) (i number : ℕ) (d : N) (files : List (List ℕ)) (o : Outcome) → i < length queries → number ≡ i + 1 → AreRead held (updates ∷ map name_of (take i queries)) files → AreWithin files → NeverFall before now → IsRefusedNext number (held (name_of (get_or queries i d))) files (now (name_of (get_or queries i d))) (after (name_of (get_or queries i d))) o → IsRefusedRun held (updates ∷ map name_of queries) before after o
-  refused_query held updates queries before now after i number d files o lt count read within lasting refused =
+  pub refused_query : (held : List ℕ → Option (List ℕ)) (updates : List ℕ) (queries : List N) (before now after : List ℕ → ℕ) (i number : ℕ) (d : N) (files : List (List ℕ)) (o : Outcome) → i < length queries → number ≡ i + 1 → AreRead held (updates ∷ map name_of (take i queries)) files → AreWithin files → now ≡ before → IsRefusedNext number (name_of (get_or queries i d)) (held (name_of (get_or queries i d))) files now after o → IsRefusedRun held (updates ∷ map name_of queries) before after o
+  refused_query held updates queries before now after i number d files o lt count read within fetched refused =
       let name = name_of (get_or queries i d) in
       let read_first : AreRead held (updates ∷ take i (map name_of queries)) files = rw (take-map name_of i queries) read in
-      let refused_here : IsRefusedNext (suc i) (held name) files (now name) (after name) o = rw (count, add-one) at refused in
-      refused_next held (updates ∷ map name_of queries) before now after (suc i) name files o (name_at queries i d lt) read_first within lasting refused_here
+      let refused_here : IsRefusedNext (suc i) name (held name) files now after o = rw (count, add-one) at refused in
+      refused_next held (updates ∷ map name_of queries) before now after (suc i) name files o (name_at queries i d lt) read_first within fetched refused_here

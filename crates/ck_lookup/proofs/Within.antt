@@ -1,5 +1,5 @@
 -- Files within the limits, one by one.
-use Rattle.std.proofs.Common.{ℕ, ◌+◌, ◌≤◌, List, [], ◌∷◌, ◌++◌, length, refl, sym, arith}
+use Rattle.std.proofs.Common.{ℕ, ◌+◌, ◌<◌, ◌≤◌, List, [], ◌∷◌, ◌++◌, length, refl, sym, arith}
 use Rattle.std.specs.List.{AllByRecursion}
 use Rattle.std.proofs.lemmas.List.Sums.{sum_by_push}
 use Rattle.ck_lookup.specs.Limits.{AreWithin, line_count, most_bytes, most_lines, all_bytes, all_lines}
@@ -41,3 +41,9 @@ fits_if_within files bytes lines file counted within = (
   omega (arith, sum_by_push length files file, within.short_in_all, counted.count_of_bytes),
   omega (arith, sum_by_push line_count files file, within.few_lines_in_all, counted.count_of_lines),
 )
+
+-- a file that is too long for itself fits nowhere
+pub too_long_past : (files : List (List ℕ)) (file : List ℕ) → most_bytes < length file → AreWithin (files ++ file ∷ []) → ⊥
+too_long_past files file long within =
+    let short : length file ≤ most_bytes = all_last _ files file within.short in
+    omega (arith, short, long)

@@ -1,7 +1,7 @@
 -- Why a run ends as it does.
-use Rattle.std.specs.Prelude.{◌≡◌, ℕ, zero, suc, ◌+◌, ◌<◌, ◌⊎◌, List, ◌∷◌, length, map, take, Option, Some, None, slice_get, decimal}
+use Rattle.std.specs.Prelude.{◌≡◌, ℕ, zero, suc, ◌+◌, ◌<◌, ◌⊎◌, List, [], ◌∷◌, ◌++◌, length, map, take, Option, Some, None, IfSome, slice_get, decimal}
 use Rattle.ck_io.specs.Faults.{Rose}
-use Rattle.ck_io.specs.Sink.{AppendsPrefix}
+use Rattle.ck_io.specs.Sink.{appended, AppendsPrefix}
 use Rattle.ck_history.specs.Key.{IsKey}
 use Rattle.ck_history.specs.declared.update.Update.{Update}
 use Rattle.ck_script.specs.declared.fault.ScriptFault.{ScriptFault}
@@ -35,6 +35,20 @@ pub record IsBadLine (files : List (List ℕ)) (file : ℕ) (fault : ScriptFault
   pub first : IsFaultOf file bytes fault
   pub earlier : (i : ℕ) (before : List ℕ) → i < file → slice_get files i ≡ Some before → IsLawful i before
 
+-- the update file says the lines `ups`, the query files say `asks`, and none of these lines is beyond what there is
+pub record AreSaid (update_file : List ℕ) (query_files : List (List ℕ)) (ups : List (Numbered (UpLine (Update ℕ)))) (asks : List (List (Numbered (AskLine ℕ)))) : Type 0 where
+  pub updates_said : FileSays (IsUpdateLine IsKey) (update_words decimal) update_file ups
+  pub queries_said : QueriesSay IsKey decimal query_files asks
+  pub in_range : range_fault ups asks ≡ None
+
+-- nothing stands against a report of these files: they are within the limits, all of them are in the grammar, and no line
+-- is beyond what there is
+pub record AreAccepted (update_file : List ℕ) (query_files : List (List ℕ)) : Type 0 where
+  pub within : AreWithin (update_file ∷ query_files)
+  pub ups : List (Numbered (UpLine (Update ℕ)))
+  pub asks : List (List (Numbered (AskLine ℕ)))
+  pub said : AreSaid update_file query_files ups asks
+
 -- all files are in the grammar, and this line of what they say is the first that is beyond what there is
 pub record IsBeyondLine (update_file : List ℕ) (query_files : List (List ℕ)) (file : ℕ) (fault : ScriptFault) : Type 0 where
   pub ups : List (Numbered (UpLine (Update ℕ)))
@@ -49,25 +63,32 @@ abbrev pub IsBadScript : List ℕ → List (List ℕ) → ℕ → ScriptFault �
 IsBadScript update_file query_files file fault =
     IsBadLine (update_file ∷ query_files) file fault ⊎ IsBeyondLine update_file query_files file fault
 
+-- the files under some names have these bytes: of each what is told under its name, where that is told
+abbrev pub AreRead : {N : Type 0} → (N → Option (List ℕ)) → List N → List (List ℕ) → Type 0
+AreRead told [] [] = Unit {0}
+AreRead told (name ∷ names) (file ∷ files) = IfSome (told name) (λ bytes. file ≡ bytes) × AreRead told names files
+AreRead told _ _ = ⊥
+
 -- what the shelf holds, where it tells it, and the names of a run's files, the update file first
 module _ (held : List ℕ → Option (List ℕ)) (names : List (List ℕ)) where
   -- the shelf tells these bytes of the update file and of the query files
   abbrev pub Tells : List ℕ → List (List ℕ) → Type 0
   Tells update_file query_files = map held names ≡ map Some (update_file ∷ query_files)
 
-  -- the shelf tells these bytes of the first files, as many as these
-  abbrev pub TellsFirst : List (List ℕ) → Type 0
-  TellsFirst files = map held (take (length files) names) ≡ map Some files
+  -- there are bytes of the first n files, what the shelf tells where it tells them, that are within the limits
+  pub record AreFirstWithin (n : ℕ) : Type 0 where
+    pub files : List (List ℕ)
+    pub read : AreRead held (take n names) files
+    pub within : AreWithin files
 
-  -- the first n files are within the limits, where the shelf tells them
-  abbrev pub AreFirstWithin : ℕ → Type 0
-  AreFirstWithin n = (files : List (List ℕ)) → length files ≡ n → TellsFirst files → AreWithin files
-
-  -- the files before this one are within the limits, and with it they aren't, where the shelf tells them
+  -- there are bytes of this file and of those before it: those before it are within the limits, and with it they aren't
   pub record IsTooLarge (file : ℕ) : Type 0 where
     pub named : file < length names
-    pub earlier : AreFirstWithin file
-    pub past : (files : List (List ℕ)) → length files ≡ file + 1 → TellsFirst files → AreWithin files → ⊥
+    pub earlier : List (List ℕ)
+    pub bytes : List ℕ
+    pub read : AreRead held (take (file + 1) names) (earlier ++ bytes ∷ [])
+    pub within : AreWithin earlier
+    pub past : AreWithin (earlier ++ bytes ∷ []) → ⊥
 
   -- the count of faults of the file's name rose, and the files before it are within the limits
   pub record IsReadFault (before after : List ℕ → ℕ) (file : ℕ) : Type 0 where
@@ -76,15 +97,21 @@ module _ (held : List ℕ → Option (List ℕ)) (names : List (List ℕ)) where
     pub rose : Rose (before name) (after name)
     pub earlier : AreFirstWithin file
 
-  -- all files are within the limits, where the shelf tells them
-  abbrev pub AreAllWithin : Type 0
-  AreAllWithin = AreFirstWithin (length names)
+  -- there are bytes of all files: they are within the limits, and this is their first fault
+  pub record HasBadScript (file : ℕ) (fault : ScriptFault) : Type 0 where
+    pub update_file : List ℕ
+    pub query_files : List (List ℕ)
+    pub read : AreRead held names (update_file ∷ query_files)
+    pub within : AreWithin (update_file ∷ query_files)
+    pub first : IsBadScript update_file query_files file fault
 
-  -- the files are within the limits, and one of them has this fault
-  abbrev pub HasBadScript : ℕ → ScriptFault → Type 0
-  HasBadScript file fault =
-      AreAllWithin
-      × ((update_file : List ℕ) (query_files : List (List ℕ)) → Tells update_file query_files → IsBadScript update_file query_files file fault)
+  -- there are bytes of all files: nothing stands against a report of them, and the text is one
+  pub record HasReport (text : List ℕ) : Type 0 where
+    pub update_file : List ℕ
+    pub query_files : List (List ℕ)
+    pub read : AreRead held names (update_file ∷ query_files)
+    pub accepted : AreAccepted update_file query_files
+    pub report : IsReport update_file query_files text
 
 -- the outside of a run: what the shelf holds, the counts of faults, and what the sink took, before and after the run
 pub record Outside : Type 0 where
@@ -97,31 +124,36 @@ pub record Outside : Type 0 where
   pub sink_after : ℕ
 
 module _ (o : Outside) (names : List (List ℕ)) where
+  -- no fetch failed: no count of the shelf's faults rose
+  abbrev pub FetchedAll : Type 0
+  FetchedAll = o.shelf_after ≡ o.shelf_before
+
   -- nothing was put
   abbrev pub PutNothing : Type 0
   PutNothing = o.taken_after ≡ o.taken_before
 
+  -- what the sink took is a whole report
+  abbrev pub PutReport : Type 0
+  PutReport = (text : List ℕ) × HasReport o.held names text × (o.taken_after ≡ appended o.taken_before text)
+
   -- what the sink took is the front of a report, maybe none or all of it
   abbrev pub PutFront : Type 0
-  PutFront = (update_file : List ℕ) (query_files : List (List ℕ)) → Tells o.held names update_file query_files
-      → (text : List ℕ) × IsReport update_file query_files text × AppendsPrefix o.taken_before o.taken_after text
+  PutFront = (text : List ℕ) × HasReport o.held names text × AppendsPrefix o.taken_before o.taken_after text
 
-  -- how a run of these files may end, with the cause of each outcome
+  -- how a run of these files may end, with the cause of each outcome, and with none of the refusals that come before it
   abbrev pub Ends : Outcome → Type 0
-  Ends Done = AreAllWithin o.held names
+  Ends Done = FetchedAll × PutReport
   Ends Usage = ⊥
   Ends (ReadFault file) = IsReadFault o.held names o.shelf_before o.shelf_after file × PutNothing
-  Ends (TooLarge file) = IsTooLarge o.held names file × PutNothing
-  Ends (BadScript file line why) = HasBadScript o.held names file (record { line = line; why = why }) × PutNothing
-  Ends WriteFault = AreAllWithin o.held names × Rose o.sink_before o.sink_after × PutFront
-  Ends NoMemory = PutNothing ⊎ PutFront
+  Ends (TooLarge file) = FetchedAll × IsTooLarge o.held names file × PutNothing
+  Ends (BadScript file line why) = FetchedAll × HasBadScript o.held names file (record { line = line; why = why }) × PutNothing
+  Ends WriteFault = FetchedAll × Rose o.sink_before o.sink_after × PutFront
+  Ends NoMemory = PutNothing ⊎ (FetchedAll × PutFront)
 
-  -- nothing stands against a whole report: the files are within the limit and the grammar, and no count of faults rose
+  -- nothing stands against a whole report: the shelf tells files of which nothing is refused, and no count of faults rose
   pub record IsClear (update_file : List ℕ) (query_files : List (List ℕ)) : Type 0 where
     pub told : Tells o.held names update_file query_files
-    pub within : AreWithin (update_file ∷ query_files)
-    pub lawful : (i : ℕ) (bytes : List ℕ) → slice_get (update_file ∷ query_files) i ≡ Some bytes → IsLawful i bytes
-    pub in_range : (ups : List (Numbered (UpLine (Update ℕ)))) (asks : List (List (Numbered (AskLine ℕ)))) → FileSays (IsUpdateLine IsKey) (update_words decimal) update_file ups → QueriesSay IsKey decimal query_files asks → range_fault ups asks ≡ None
+    pub accepted : AreAccepted update_file query_files
     pub read : (name : List ℕ) → Rose (o.shelf_before name) (o.shelf_after name) → ⊥
     pub written : Rose o.sink_before o.sink_after → ⊥
 

@@ -18,12 +18,6 @@ abbrev pub IsNotAdded : List (List ℕ) → List ℕ → List (List ℕ) → Not
 IsNotAdded old file new TooLarge = (new ≡ old) × (AreWithin (old ++ file ∷ []) → ⊥)
 IsNotAdded old file new Memory = new ≡ old
 
--- the files under some names were read: they are what is told under each, where that is told
-abbrev pub AreRead : {N : Type 0} → (N → Option (List ℕ)) → List N → List (List ℕ) → Type 0
-AreRead told [] [] = Unit {0}
-AreRead told (name ∷ names) (file ∷ files) = IfSome (told name) (λ bytes. file ≡ bytes) × AreRead told names files
-AreRead told _ _ = ⊥
-
 -- one more file was read, under a name that has these bytes, where they are told
 pub record IsNext (told : Option (List ℕ)) (old new : List (List ℕ)) : Type 0 where
   pub file : List ℕ
@@ -31,9 +25,13 @@ pub record IsNext (told : Option (List ℕ)) (old new : List (List ℕ)) : Type 
   pub read : IfSome told (λ bytes. file ≡ bytes)
   pub within : AreWithin new
 
--- the outcome where the next file, with this number, wasn't read
-abbrev pub IsRefusedNext : ℕ → Option (List ℕ) → List (List ℕ) → ℕ → ℕ → Outcome → Type 0
-IsRefusedNext file told old before after (outcome.ReadFault f) = (f ≡ file) × Rose before after
-IsRefusedNext file told old before after (outcome.TooLarge f) = (f ≡ file) × IfSome told (λ bytes. AreWithin (old ++ bytes ∷ []) → ⊥)
-IsRefusedNext file told old before after outcome.NoMemory = Unit {0}
-IsRefusedNext file told old before after _ = ⊥
+-- the next file, of these bytes or of more than are told, would be past a limit
+abbrev pub IsPast : Option (List ℕ) → List (List ℕ) → Type 0
+IsPast told old = (bytes : List ℕ) × IfSome told (λ all. bytes ≡ all) × (AreWithin (old ++ bytes ∷ []) → ⊥)
+
+-- the outcome where the next file, with this number, wasn't read; the counts are those of the shelf
+abbrev pub IsRefusedNext : ℕ → List ℕ → Option (List ℕ) → List (List ℕ) → (List ℕ → ℕ) → (List ℕ → ℕ) → Outcome → Type 0
+IsRefusedNext file name told old before after (outcome.ReadFault f) = (f ≡ file) × Rose (before name) (after name)
+IsRefusedNext file name told old before after (outcome.TooLarge f) = (f ≡ file) × (after ≡ before) × IsPast told old
+IsRefusedNext file name told old before after outcome.NoMemory = Unit {0}
+IsRefusedNext file name told old before after _ = ⊥

@@ -1,8 +1,9 @@
 -- What the parts of a run make of its files.
-use Rattle.std.specs.Prelude.{◌≡◌, ℕ, suc, ◌<◌, List, [], map, Some, Option, slice_get, decimal}
+use Rattle.std.specs.Prelude.{◌≡◌, ℕ, suc, ◌<◌, List, [], ◌∷◌, map, Some, Option, slice_get, decimal}
 use Rattle.std.specs.Ordering.{nat_cmp}
 use Rattle.ck_history.specs.Map.{Map, find, after_from, replies}
 use Rattle.ck_history.specs.declared.update.Update.{Update}
+use Rattle.ck_script.specs.declared.line.Numbered.{Numbered}
 use Rattle.ck_script.specs.declared.line.UpLine.{UpLine}
 use Rattle.ck_script.specs.declared.line.AskLine.{AskLine}
 use Rattle.ck_script.specs.declared.fault.ScriptError.{ScriptError}
@@ -14,7 +15,8 @@ use Rattle.ck_report.specs.Text.{report_text}
 use Rattle.ck_lookup.specs.declared.outcome.Outcome.{Outcome}
 use Rattle.ck_lookup.specs.declared.outcome.Outcome.TheVariants.{ReadFault, BadScript, TooLarge, NoMemory}
 use Rattle.ck_lookup.specs.Headline.{capacity}
-use Rattle.ck_lookup.specs.Causes.{IsFaultOf, IsLawful, IsBadScript, HasBadScript, IsReadFault, IsTooLarge}
+use Rattle.ck_lookup.specs.Limits.{AreWithin}
+use Rattle.ck_lookup.specs.Causes.{IsFaultOf, IsLawful, IsBadScript, HasBadScript, IsReadFault, IsTooLarge, AreRead, AreSaid}
 
 -- the answers of one map to queries
 abbrev pub answers_of : Map ℕ → List (ℕ × ℕ) → List (Asked ℕ)
@@ -68,11 +70,20 @@ IsRefusedScript update_file query_files (BadScript file line why) = IsBadScript 
 IsRefusedScript update_file query_files NoMemory = Unit {0}
 IsRefusedScript update_file query_files _ = ⊥
 
+-- a run may go on: there are bytes of all files, what is told where it is told, they are within the limits, and they say
+-- the lines `ups` and `asks`, none of which is beyond what there is
+pub record AreRunnable (held : List ℕ → Option (List ℕ)) (names : List (List ℕ)) (ups : List (Numbered (UpLine (Update ℕ)))) (asks : List (List (Numbered (AskLine ℕ)))) : Type 0 where
+  pub update_file : List ℕ
+  pub query_files : List (List ℕ)
+  pub read : AreRead held names (update_file ∷ query_files)
+  pub within : AreWithin (update_file ∷ query_files)
+  pub said : AreSaid update_file query_files ups asks
+
 -- the outcome of a run of these files that gets no report
 module _ (held : List ℕ → Option (List ℕ)) (names : List (List ℕ)) (before after : List ℕ → ℕ) where
   abbrev pub IsRefusedRun : Outcome → Type 0
   IsRefusedRun (ReadFault file) = IsReadFault held names before after file
-  IsRefusedRun (TooLarge file) = IsTooLarge held names file
-  IsRefusedRun (BadScript file line why) = HasBadScript held names file (record { line = line; why = why })
+  IsRefusedRun (TooLarge file) = (after ≡ before) × IsTooLarge held names file
+  IsRefusedRun (BadScript file line why) = (after ≡ before) × HasBadScript held names file (record { line = line; why = why })
   IsRefusedRun NoMemory = Unit {0}
   IsRefusedRun _ = ⊥

@@ -1,7 +1,8 @@
 ghost use Rattle.std.specs.Prelude.{◌≡◌, [], ◌∷◌, map, IfOk, IfErr, OnOk};
 ghost use Rattle.ck_io.specs.Faults.{NeverFall};
 ghost use Rattle.ck_lookup.specs.Limits.{AreWithin};
-ghost use Rattle.ck_lookup.specs.Fetching.{AreRead, IsNext, IsRefusedNext};
+ghost use Rattle.ck_lookup.specs.Causes.{AreRead};
+ghost use Rattle.ck_lookup.specs.Fetching.{IsNext, IsRefusedNext};
 ghost use Rattle.ck_lookup.specs.Running.{IsRefusedRun};
 
 use crate::files::{Files, MOST_BYTES, NotAdded};
@@ -18,6 +19,7 @@ pub fn fetch_all<S: Shelf>(
 ) -> Result<Files, Outcome>
     ensures read { IfOk result (AreRead (S.held shelf.old) (updates.now ∷ map (λ name. name.now) queries.now)) }
     ensures within { IfOk result AreWithin }
+    ensures fetched { OnOk result (S.faults shelf.new ≡ S.faults shelf.old) }
     ensures refused { IfErr result (IsRefusedRun (S.held shelf.old) (updates.now ∷ map (λ name. name.now) queries.now) (S.faults shelf.old) (S.faults shelf.new)) }
     ensures held { S.held shelf.new ≡ S.held shelf.old }
     ensures lasting { NeverFall (S.faults shelf.old) (S.faults shelf.new) }
@@ -41,7 +43,8 @@ fn fetch_next<S: Shelf>(
     name: &str,
 ) -> Result<(), Outcome>
     ensures ok { OnOk result (IsNext (S.held shelf.old name.now) files.old files.new) }
-    ensures refused { IfErr result (IsRefusedNext number (S.held shelf.old name.now) files.old (S.faults shelf.old name.now) (S.faults shelf.new name.now)) }
+    ensures fetched { OnOk result (S.faults shelf.new ≡ S.faults shelf.old) }
+    ensures refused { IfErr result (IsRefusedNext number name.now (S.held shelf.old name.now) files.old (S.faults shelf.old) (S.faults shelf.new)) }
     ensures held { S.held shelf.new ≡ S.held shelf.old }
     ensures lasting { NeverFall (S.faults shelf.old) (S.faults shelf.new) }
 {

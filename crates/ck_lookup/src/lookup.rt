@@ -4,7 +4,7 @@ ghost use Rattle.ck_io.specs.Sink.{appended};
 ghost use Rattle.ck_lookup.specs.declared.outcome.Outcome.TheVariants.{Done, Usage, NoMemory};
 ghost use Rattle.ck_command.specs.Words.{Command, names, command_of};
 ghost use Rattle.ck_lookup.specs.Headline.{IsReport};
-ghost use Rattle.ck_lookup.specs.Causes.{Tells, Ends, IsClear, IsDoneOrNoMemory};
+ghost use Rattle.ck_lookup.specs.Causes.{Tells, AreAccepted, Ends, IsClear, IsDoneOrNoMemory};
 
 use crate::outcome::Outcome;
 use crate::report::{put_scripts, scripts_of};
@@ -31,15 +31,17 @@ pub fn run<R: Threads + Wait + Sync, S: Shelf, K: Sink, G: Gate + Sync>(
     ensures unasked { command_of (map string_bytes words.now) ≡ None
         → ((result ≡ Usage) ⊎ (result ≡ NoMemory)) × (K.taken sink.new ≡ K.taken sink.old) }
 
-    // The headline. Where the run is done, and the shelf tells the bytes of the files, what the sink took in this run
-    // is a report of these bytes.
+    // The headline. Where the run is done, and the shelf tells the bytes of the files, nothing of these bytes is refused,
+    // and what the sink took in this run is a report of them.
     ensures report { (c : Command) (update_file : List ℕ) (query_files : List (List ℕ))
         → command_of (map string_bytes words.now) ≡ Some c
         → Tells (S.held shelf.old) (names c) update_file query_files
         → result ≡ Done
-        → (text : List ℕ) × IsReport update_file query_files text × (K.taken sink.new ≡ appended (K.taken sink.old) text) }
+        → AreAccepted update_file query_files
+            × ((text : List ℕ) × IsReport update_file query_files text × (K.taken sink.new ≡ appended (K.taken sink.old) text)) }
 
-    // Every other outcome has its cause.
+    // Every outcome has its cause, and none of the refusals that come before it. Where the shelf tells no bytes, there are
+    // bytes for each file of which all this holds.
     ensures ends { (c : Command) → command_of (map string_bytes words.now) ≡ Some c
         → Ends (record {
           held = S.held shelf.old;
@@ -86,10 +88,6 @@ fn run_table<S: Shelf, K: Sink, G: Gate>(
     sink: &mut K,
     gate: &G,
 ) -> Outcome
-    ensures report { (update_file : List ℕ) (query_files : List (List ℕ))
-        → Tells (S.held shelf.old) (updates.now ∷ map (λ name. name.now) queries.now) update_file query_files
-        → result ≡ Done
-        → (text : List ℕ) × IsReport update_file query_files text × (K.taken sink.new ≡ appended (K.taken sink.old) text) }
     ensures ends { Ends (record {
       held = S.held shelf.old;
       shelf_before = S.faults shelf.old;

@@ -3,9 +3,8 @@ ghost use Rattle.ck_io.specs.Faults.{NeverFall};
 ghost use Rattle.ck_io.specs.Sink.{appended, AppendsPrefix};
 ghost use Rattle.ck_report.specs.Streaming.{IsPutCause};
 ghost use Rattle.ck_script.specs.Script.{said_of};
-ghost use Rattle.ck_lookup.specs.Headline.{IsReport};
-ghost use Rattle.ck_lookup.specs.Causes.{Tells, AreAllWithin};
-ghost use Rattle.ck_lookup.specs.Running.{IsRefusedScript, IsRefusedRun, text_of};
+ghost use Rattle.ck_lookup.specs.Causes.{AreSaid};
+ghost use Rattle.ck_lookup.specs.Running.{AreRunnable, IsRefusedScript, IsRefusedRun, text_of};
 
 use crate::fetch::fetch_all;
 use crate::outcome::Outcome;
@@ -22,10 +21,8 @@ pub fn scripts_of<S: Shelf>(
     queries: &[&str],
     shelf: &mut S,
 ) -> Result<Scripts, Outcome>
-    ensures within { IfOk result (λ scripts. AreAllWithin (S.held shelf.old) (updates.now ∷ map (λ name. name.now) queries.now)) }
-    ensures report { IfOk result (λ scripts. (update_file : List ℕ) (query_files : List (List ℕ))
-        → Tells (S.held shelf.old) (updates.now ∷ map (λ name. name.now) queries.now) update_file query_files
-        → IsReport update_file query_files (text_of (said_of scripts.ups.items) (map said_of (map (λ file. file.items) scripts.asks.items)))) }
+    ensures runnable { IfOk result (λ scripts. AreRunnable (S.held shelf.old) (updates.now ∷ map (λ name. name.now) queries.now) scripts.ups.items (map (λ file. file.items) scripts.asks.items)) }
+    ensures fetched { OnOk result (S.faults shelf.new ≡ S.faults shelf.old) }
     ensures refused { IfErr result (IsRefusedRun (S.held shelf.old) (updates.now ∷ map (λ name. name.now) queries.now) (S.faults shelf.old) (S.faults shelf.new)) }
     ensures held { S.held shelf.new ≡ S.held shelf.old }
     ensures lasting { NeverFall (S.faults shelf.old) (S.faults shelf.new) }
@@ -37,8 +34,8 @@ pub fn scripts_of<S: Shelf>(
 // What the bytes of files say, the update file first.
 fn scripts_of_files(alloc: Global, files: &[Vec<u8>]) -> Result<Scripts, Outcome>
     requires { 0 < length files.now }
-    ensures report { (update_file : List ℕ) (query_files : List (List ℕ)) → map (λ file. file.items) files.now ≡ update_file ∷ query_files
-        → IfOk result (λ scripts. IsReport update_file query_files (text_of (said_of scripts.ups.items) (map said_of (map (λ file. file.items) scripts.asks.items)))) }
+    ensures said { (update_file : List ℕ) (query_files : List (List ℕ)) → map (λ file. file.items) files.now ≡ update_file ∷ query_files
+        → IfOk result (λ scripts. AreSaid update_file query_files scripts.ups.items (map (λ file. file.items) scripts.asks.items)) }
     ensures refused { (update_file : List ℕ) (query_files : List (List ℕ)) → map (λ file. file.items) files.now ≡ update_file ∷ query_files
         → IfErr result (IsRefusedScript update_file query_files) }
 {

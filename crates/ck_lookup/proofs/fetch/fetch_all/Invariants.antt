@@ -1,7 +1,6 @@
-use Rattle.std.proofs.Common.{◌≡◌, take, ◌∷◌, map}
-use Rattle.ck_io.specs.Faults.{NeverFall}
+use Rattle.std.proofs.Common.{◌≡◌, take, ◌∷◌, ◌++◌, map}
 use Rattle.ck_lookup.specs.Limits.{AreWithin}
-use Rattle.ck_lookup.specs.Fetching.{AreRead}
+use Rattle.ck_lookup.specs.Causes.{AreRead}
 use Rattle.ck_lookup.proofs.fetch.fetch_all.Given as goal
 
 -- the update file and the query files so far are read
@@ -11,5 +10,5 @@ invariant-loop-query g l = record {
   read : AreRead (g.S.Shelf.held l.fn.shelf) (l.updates ∷ map (λ name. name.now) (take l.query-index l.queries)) l.files;
   within : AreWithin l.files;
   held : g.S.Shelf.held l.shelf ≡ g.S.Shelf.held l.fn.shelf;
-  lasting : NeverFall (g.S.Shelf.faults l.fn.shelf) (g.S.Shelf.faults l.shelf);
+  fetched : g.S.Shelf.faults l.shelf ≡ g.S.Shelf.faults l.fn.shelf;
 }
