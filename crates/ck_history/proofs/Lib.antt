@@ -1,5 +1,5 @@
 mod Made
 pub mod Order
-mod Place
+mod Index
 pub mod Step
 pub mod Placing

@@ -1,4 +1,4 @@
--- What the edit of the pairs at a place is to the map.
+-- What the edit of the pairs at an index is to the map.
 use Rattle.std.proofs.Common.{◌≡◌, ℕ, ◌<◌, ◌∙◌, length, get_or, set, sym, ap, Some}
 use Rattle.std.proofs.lemmas.Bool.{cond_below}
 use Rattle.std.specs.declared.cmp.Ordering.{Ordering}
@@ -8,13 +8,13 @@ use Rattle.std.specs.BTreeMap.{insert_entry}
 use Rattle.ck_history.specs.declared.update.Update.TheVariants.{Set, Put, Del}
 use Rattle.ck_history.specs.declared.update.Reply.TheVariants.{Fresh, Was, Has, Missing}
 use Rattle.ck_history.specs.Map.{Map, IsMap, find, add, step}
-use Rattle.ck_history.specs.Place.{StandsAt, BelongsAt}
+use Rattle.ck_history.specs.Index.{StandsAt, BelongsAt}
 use Rattle.ck_history.proofs.Order.{IsMap-insert_entry}
-use Rattle.ck_history.proofs.Place.{found, absent}
+use Rattle.ck_history.proofs.Index.{found, absent}
 use Rattle.ck_history.proofs.Step.{step-Set_found, step-Put_found, step-Del_found, step-Set_absent, step-Put_absent, step-Del_absent}
 
 module _ {K : Type 0} {cmp : K → K → Ordering} (total : IsTotalOrder cmp) (most : ℕ) (m : Map K) (k : K) (at : ℕ) where
-  -- e is the pair at the key's place
+  -- e is the pair at the key's index
   module _ (stands : StandsAt cmp k m at) (e : K × ℕ) (is : e ≡ get_or m at e) where
     -- the look-up finds its value, ..
     pub find_at : find cmp m k ≡ Some e.1
@@ -36,7 +36,7 @@ module _ {K : Type 0} {cmp : K → K → Ordering} (total : IsTotalOrder cmp) (m
     pub made-remove : step cmp most m (Del k) ≡ (remove m at, Was e.1)
     made-remove = let here = found total k m at stands in step-Del_found cmp most m k e.1 find_at ∙ ap (λ l. (l, Was e.1)) (sym here.removes)
 
-  -- the key is absent, and its pair belongs at the place
+  -- the key is absent, and its pair belongs at the index
   module _ (ordered : IsMap cmp m) (belongs : BelongsAt cmp k m at) where
     pub made-set_new : (v : ℕ) → step cmp most m (Set k v) ≡ add cmp most m k v
     made-set_new v = let gap = absent total k m at ordered belongs in step-Set_absent cmp most m k gap.value v

@@ -1,8 +1,8 @@
 pub mod Key
 pub mod Map
-pub mod Page
+pub mod Book
 pub mod Events
 pub mod Places
 pub mod Legal
-pub mod Place
+pub mod Index
 pub mod Room

@@ -1,6 +1,6 @@
 ghost use Rattle.std.specs.Prelude.{◌≡◌, ℕ, [], IfOk, OnOk, OnErr};
 ghost use Rattle.ck_history.specs.Map.{IsMap, find, step};
-ghost use Rattle.ck_history.specs.Page.{Page};
+ghost use Rattle.ck_history.specs.Book.{BookView};
 ghost use Rattle.ck_history.specs.declared.update.Reply.TheVariants.{Fresh};
 
 use crate::pairs;
@@ -17,10 +17,10 @@ pub struct Book<K: Ord + Copy> {
 }
 
 impl<K: Ord + Copy> Model for Book<K> {
-    ghost use Rattle.ck_history.specs.Page.{Page};
+    ghost use Rattle.ck_history.specs.Book.{BookView};
     ghost use Rattle.ck_history.specs.Map.{IsMap};
 
-    ghost Value = { Page K };
+    ghost Value = { BookView K };
 
     ghost view = { λ b. record { most = b.most; pairs = b.pairs.items } };
 

@@ -1,6 +1,6 @@
 ghost use Rattle.std.specs.Prelude.{◌≡◌, [], IfOk};
 ghost use Rattle.ck_history.specs.Map.{IsMap, find, step};
-ghost use Rattle.ck_history.specs.Page.{Page};
+ghost use Rattle.ck_history.specs.Book.{BookView};
 
 use crate::pairs;
 use crate::update::{Reply, Update};
@@ -15,11 +15,11 @@ pub struct FixedBook<K: Ord + Copy> {
 }
 
 impl<K: Ord + Copy> Model for FixedBook<K> {
-    ghost use Rattle.ck_history.specs.Page.{Page};
+    ghost use Rattle.ck_history.specs.Book.{BookView};
     ghost use Rattle.ck_history.specs.Map.{IsMap};
     ghost use Rattle.ck_history.specs.Room.{HasRoom};
 
-    ghost Value = { Page K };
+    ghost Value = { BookView K };
 
     ghost view = { λ b. record { most = b.most; pairs = b.pairs.items } };
 

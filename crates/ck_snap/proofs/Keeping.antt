@@ -7,12 +7,12 @@ use Rattle.std.proofs.lemmas.List.{append-nil}
 use Rattle.atomic_table.proofs.Lists.{at_set, at_snoc}
 use Rattle.ck_history.specs.declared.log.LogEntry.{LogEntry}
 use Rattle.ck_history.specs.Map.{Map}
-use Rattle.ck_history.specs.Page.{Page}
+use Rattle.ck_history.specs.Book.{BookView}
 use Rattle.ck_snap.specs.declared.version.Version.{Version}
 use Rattle.ck_snap.specs.declared.snapshot.Snapshot.{Snapshot}
 use Rattle.ck_snap.specs.declared.rule.EndView.{EndView}
-use Rattle.ck_snap.specs.Log.{Log, last_of, capacity, page_after}
-use Rattle.ck_snap.specs.Version.{log_of, Precedes, Follows, page_with}
+use Rattle.ck_snap.specs.Log.{Log, last_of, capacity, book_after}
+use Rattle.ck_snap.specs.Version.{log_of, Precedes, Follows, book_with}
 use Rattle.ck_snap.specs.Copies.{Keeps, Shows, newcomer, seeing, snapshot_of}
 use Rattle.ck_snap.proofs.Prefixes.{prefix_self, prefix_trans}
 use Rattle.ck_snap.proofs.Replying.{map_after-snoc}
@@ -53,20 +53,20 @@ pub enters : (seat : ℕ) (v : EndView) → Turns (λ x views. Keeps x views) se
 enters seat v x = turns_to seat v x x (precedes_self x.version) (λ p. p)
 
 -- a page after one more update
-page_after-append : (log : Log) (last : Option (LogEntry ℕ)) → page_with (page_after log) last ≡ page_after (log ++ last_of last)
-page_after-append log None = ap page_after (sym (append-nil log))
-page_after-append log (Some e) = let page : Map ℕ → Page ℕ = λ l. record { most = capacity; pairs = l } in ap page (sym (map_after-snoc log e))
+book_after-append : (log : Log) (last : Option (LogEntry ℕ)) → book_with (book_after log) last ≡ book_after (log ++ last_of last)
+book_after-append log None = ap book_after (sym (append-nil log))
+book_after-append log (Some e) = let page : Map ℕ → BookView ℕ = λ l. record { most = capacity; pairs = l } in ap page (sym (map_after-snoc log e))
 
 -- a publish of a version that follows the one that was shown
 pub publishes : (seat : ℕ) (v : EndView) (shown : Snapshot) (next : Version) → Follows shown.version next
-    → TurnsAt (λ x views. Keeps x views) seat v shown (record { book = page_with shown.book next.last; version = next }) (λ v x y w. Shows v y w)
+    → TurnsAt (λ x views. Keeps x views) seat v shown (record { book = book_with shown.book next.last; version = next }) (λ v x y w. Shows v y w)
 publishes seat v shown next follows =
     let up : Precedes (Some shown.version) next = (sym follows.0, (last_of next.last, ap (λ l. l ++ last_of next.last) (sym follows.1))) in
-    let y : Snapshot = record { book = page_with shown.book next.last; version = next } in
+    let y : Snapshot = record { book = book_with shown.book next.last; version = next } in
     turns_to seat v shown y up (λ (fold : shown ≡ snapshot_of shown.version).
-    let book : page_with shown.book next.last ≡ page_after (log_of next) =
-    ap (λ (s : Snapshot). page_with s.book next.last) fold ∙ (page_after-append (log_of shown.version) next.last ∙ ap (λ l. page_after (l ++ last_of next.last)) (sym follows.1)) in
-    let with_book : Page ℕ → Snapshot = λ b. record { book = b; version = next } in
+    let book : book_with shown.book next.last ≡ book_after (log_of next) =
+    ap (λ (s : Snapshot). book_with s.book next.last) fold ∙ (book_after-append (log_of shown.version) next.last ∙ ap (λ l. book_after (l ++ last_of next.last)) (sym follows.1)) in
+    let with_book : BookView ℕ → Snapshot = λ b. record { book = b; version = next } in
     ap with_book book)
 
 -- a new reader has seen nothing

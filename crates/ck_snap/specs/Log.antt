@@ -4,7 +4,7 @@ use Rattle.std.specs.Ordering.{nat_cmp}
 use Rattle.ck_history.specs.declared.log.LogEntry.{LogEntry}
 use Rattle.ck_history.specs.declared.update.Update.{Update}
 use Rattle.ck_history.specs.Map.{Map, after_from, replies}
-use Rattle.ck_history.specs.Page.{Page}
+use Rattle.ck_history.specs.Book.{BookView}
 
 -- answered updates with their replies, in order
 abbrev pub Log : Type 0
@@ -31,5 +31,5 @@ abbrev pub AreReplies : Log → Type 0
 AreReplies log = map (λ e. e.reply) log ≡ replies nat_cmp capacity (updates log)
 
 -- the map after all updates, as a book
-abbrev pub page_after : Log → Page ℕ
-page_after log = record { most = capacity; pairs = map_after log }
+abbrev pub book_after : Log → BookView ℕ
+book_after log = record { most = capacity; pairs = map_after log }

@@ -5,7 +5,7 @@ use Rattle.std.specs.Ordering.{nat_cmp}
 use Rattle.logbook.specs.Pages.{Book}
 use Rattle.ck_history.specs.declared.log.LogEntry.{LogEntry}
 use Rattle.ck_history.specs.Map.{step}
-use Rattle.ck_history.specs.Page.{Page}
+use Rattle.ck_history.specs.Book.{BookView}
 use Rattle.ck_snap.specs.declared.version.Version.{Version}
 use Rattle.ck_snap.specs.Log.{Log, last_of}
 
@@ -25,6 +25,6 @@ abbrev pub Follows : Version → Version → Type 0
 Follows v next = (next.prefix.book ≡ book_of v) × (next.prefix.log ≡ log_of v)
 
 -- a map after one more update, if there is one
-abbrev pub page_with : Page ℕ → Option (LogEntry ℕ) → Page ℕ
-page_with b None = b
-page_with b (Some e) = record b { pairs = (step nat_cmp b.most b.pairs e.update).0 }
+abbrev pub book_with : BookView ℕ → Option (LogEntry ℕ) → BookView ℕ
+book_with b None = b
+book_with b (Some e) = record b { pairs = (step nat_cmp b.most b.pairs e.update).0 }

@@ -13,13 +13,13 @@ pub struct Snapshot {
 
 /// A copy absorbs the next version: it makes that version's last update.
 impl Absorb<Version> for Snapshot {
-    ghost use Rattle.ck_snap.specs.Version.{page_with};
+    ghost use Rattle.ck_snap.specs.Version.{book_with};
 
     type State = Snapshot;
 
     ghost state = { λ s. s };
 
-    ghost applied = { λ s next. record { book = page_with s.book next.last; version = next } };
+    ghost applied = { λ s next. record { book = book_with s.book next.last; version = next } };
 
     ghost never_fails = { Unit {0} };
 

@@ -1,5 +1,5 @@
 use Rattle.std.proofs.Common.{◌∙◌, ℕ, Some, sym, ap, arith}
-use Rattle.ck_history.proofs.Place.{found, absent}
+use Rattle.ck_history.proofs.Index.{found, absent}
 use Rattle.ck_history.proofs.Made.{find_at}
 use Rattle.ck_history.proofs.pairs.find.Goals as goal
 

@@ -1,7 +1,7 @@
 use Rattle.std.proofs.Common.{◌≡◌, IfOk, OnOk, OnErr, ap, sym, subst, arith}
 use Rattle.ck_history.specs.declared.update.Reply.TheVariants.{Fresh}
-use Rattle.ck_history.specs.Place.{StandsAt, BelongsAt}
-use Rattle.ck_history.proofs.Place.{found}
+use Rattle.ck_history.specs.Index.{StandsAt, BelongsAt}
+use Rattle.ck_history.proofs.Index.{found}
 use Rattle.ck_history.proofs.Made.{made-put_over, made-put_new}
 use Rattle.ck_history.proofs.pairs.put.Goals as goal
 

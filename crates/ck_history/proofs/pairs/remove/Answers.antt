@@ -1,7 +1,7 @@
 use Rattle.std.proofs.Common.{ap, sym, subst, arith}
-use Rattle.ck_history.specs.Place.{StandsAt, BelongsAt}
+use Rattle.ck_history.specs.Index.{StandsAt, BelongsAt}
 use Rattle.ck_history.proofs.Order.{IsMap-remove_entry}
-use Rattle.ck_history.proofs.Place.{found}
+use Rattle.ck_history.proofs.Index.{found}
 use Rattle.ck_history.proofs.Made.{made-remove, made-remove_none}
 use Rattle.ck_history.proofs.pairs.remove.Goals as goal
 

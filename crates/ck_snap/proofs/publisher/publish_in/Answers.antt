@@ -3,7 +3,7 @@ use Rattle.std.specs.declared.result.Result.TheVariants.{Ok, Err}
 use Rattle.left_right.specs.Register.{TurnsAt}
 use Rattle.left_right.specs.Sides.{view}
 use Rattle.ck_snap.specs.declared.snapshot.Snapshot.{Snapshot}
-use Rattle.ck_snap.specs.Version.{page_with}
+use Rattle.ck_snap.specs.Version.{book_with}
 use Rattle.ck_snap.specs.Copies.{Keeps, Shows, snapshot_of}
 use Rattle.ck_snap.proofs.Keeping.{publishes}
 use Rattle.ck_snap.proofs.publisher.publish_in.Goals as goal
@@ -17,7 +17,7 @@ pub publish_as-writer-requires : goal.publish_as-writer-requires
 publish_as-writer-requires g c next is =
     let shown = c.args.writer.desk.shown.value in
     let op = c.args.next.now in
-    let made : next ≡ record { book = page_with shown.book op.last; version = op } = rw c.requires.pending at is in
+    let made : next ≡ record { book = book_with shown.book op.last; version = op } = rw c.requires.pending at is in
     let seat = c.args.writer.desk.place in
     subst (λ (s : Snapshot). TurnsAt (λ x views. Keeps x views) seat.id (view seat) shown s (λ v x y w. Shows v y w)) (sym made) (publishes seat.id (view seat) shown op c.requires.follows)
 
@@ -33,6 +33,6 @@ returns g c =
     let ok = r.ensures.succeeds tt in
     let values = of_ok r.result.1 _ _ ok r.ensures.values in
     let told = of_ok r.result.1 _ _ ok r.ensures.rule in
-    let made : y ≡ record { book = page_with shown.book op.last; version = op } = rw c.requires.pending at values.0 in
+    let made : y ≡ record { book = book_with shown.book op.last; version = op } = rw c.requires.pending at values.0 in
     let version = ap (λ (s : Snapshot). s.version) made in
     record { shown = told.fold ∙ ap snapshot_of version; knows = ap (λ v. v.seen) told.view ∙ ap Some version; settled = values.1 }

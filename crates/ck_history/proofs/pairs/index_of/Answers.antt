@@ -1,7 +1,7 @@
 use Rattle.std.proofs.Common.{rules}
 use Rattle.std.proofs.lemmas.List.Sorted.{answers_always}
-use Rattle.ck_history.proofs.Place.{searched}
-use Rattle.ck_history.proofs.pairs.place_of.Goals as goal
+use Rattle.ck_history.proofs.Index.{searched}
+use Rattle.ck_history.proofs.pairs.index_of.Goals as goal
 
 -- the closure gives a pair's key
 pub returns : goal.returns

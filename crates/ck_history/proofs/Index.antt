@@ -16,7 +16,7 @@ use Rattle.std.proofs.lemmas.Map.{lookup-none}
 use Rattle.std.proofs.lemmas.Map.Entries.{length-keys_of, none_below_head}
 use Rattle.std.proofs.lemmas.Map.Keys.{Less-from_sorted, sorted_tail}
 use Rattle.ck_history.specs.Map.{Map, IsMap, find}
-use Rattle.ck_history.specs.Place.{StandsAt, BelongsAt}
+use Rattle.ck_history.specs.Index.{StandsAt, BelongsAt}
 
 -- what the place of a key that is there says of a look-up and of edits
 pub record Found {K : Type 0} (cmp : K → K → Ordering) (k : K) (m : Map K) (at : ℕ) : Type 0 where
