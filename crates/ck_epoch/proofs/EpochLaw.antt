@@ -3,14 +3,14 @@ use Rattle.std.proofs.Common.{◌≡◌, ℕ, suc, ◌+◌, ◌<◌, ◌≤◌, 
 use Rattle.std.proofs.lemmas.Bool.{eqb-true}
 use Rattle.std.proofs.lemmas.List.Elements.{All-filter, All-nil, filter_passes}
 use mathlib.Core.Option.{some-ne-none}
-use Rattle.ck_run.specs.Run.{Run, replay, account}
+use Rattle.ck_run.specs.Run.{index_in, Run, replay, account}
 use Rattle.ck_run.specs.Rule.{IsRun}
 use Rattle.ck_run.specs.Machine.{IsInvariantAlong, follows_of}
 use Rattle.ck_run.proofs.Moments.{holds_along, run_before}
 use Rattle.ck_epoch.specs.Lists.{is_on}
 use Rattle.ck_epoch.specs.State.{epoch_word, Stage, holding, inside, Retirement, TokenState, start, next, May, Origin, records_of, IsOpening, epochs, state_at}
-use Rattle.ck_epoch.specs.Epochs.{place, IsOpen, IsPassed, IsRetired, writer_in, stage_in, IsSafeNow, IsSafe, AreEpochs, KeepsEpochs, HasWaited, Reclamation}
-use Rattle.ck_epoch.specs.Held.{IsTimely, IsCurrent, IsGuarded, IsOpenAt, AreHeld}
+use Rattle.ck_epoch.specs.Epochs.{IsOpen, IsPassed, IsRetired, writer_in, stage_in, IsSafeNow, IsSafe, AreEpochs, KeepsEpochs, HasWaited}
+use Rattle.ck_epoch.specs.Held.{IsTimely, IsCurrent, GuardsSection, IsOpenAt, AreHeld}
 use Rattle.ck_epoch.proofs.Keeps.{keeps}
 use Rattle.ck_epoch.proofs.RecordsKept.{none_some}
 
@@ -19,7 +19,7 @@ pub record IsInside (global : ℕ) (older : ℕ → Type 0) (r : ℕ) (w : Token
   pub depth : ℕ
   pub epoch : ℕ
   pub stage : g ≡ inside depth epoch
-  pub guarded : IsGuarded global older r epoch w
+  pub guarded : GuardsSection global older r epoch w
 
 pub inside_at : (global : ℕ) (older : ℕ → Type 0) (r : ℕ) (w : TokenState) (g : Stage) → IsOpenAt global older r w g → IsInside global older r w g
 inside_at global older r w (inside d x) h = record { depth = d; epoch = x; stage = refl; guarded = h }
@@ -71,8 +71,8 @@ module _ {C : Type 0} where
     G r = get_or (replay origin.words run) (epoch_word r) 0
 
     -- the section and what guards it
-    pub section : (r o : ℕ) → r < records_of origin → IsOpen run r o → IsInside E (λ i. o < place run 0 i) r (writer_in origin run) (stage_in origin run r)
-    section r o l is = inside_at E (λ i. o < place run 0 i) r (writer_in origin run) (stage_in origin run r) ((h.each r l).sections o is)
+    pub section : (r o : ℕ) → r < records_of origin → IsOpen run r o → IsInside E (λ i. o < index_in run 0 i) r (writer_in origin run) (stage_in origin run r)
+    section r o l is = inside_at E (λ i. o < index_in run 0 i) r (writer_in origin run) (stage_in origin run r) ((h.each r l).sections o is)
 
     pub safe_now : IsSafeNow origin run
     safe_now r o l is = (section r o l is).guarded.dispatched
@@ -110,6 +110,3 @@ module _ {C : Type 0} where
 
   pub has_waited : (origin : Origin C) (run : Run) → IsRun (follows_of epochs) origin run → HasWaited origin run
   has_waited origin run r = waited_now origin run (held_after origin run r)
-
-pub reclamation : (C : Type 0) → Reclamation C
-reclamation C = record { safe = safe; keeps = keeps_epochs; waits = has_waited }

@@ -14,8 +14,9 @@ use Rattle.ck_run.proofs.Law.{moved_here, moved_else}
 use Rattle.ck_run.proofs.Runs.{account_here, account_else}
 use Rattle.ck_epoch.specs.State.{base, active_word, epoch_word, poll, synchronize, barrier, Task, polling, first_round, second_round, Stage, outside, entering, holding, inside, free, scanning, comparing, between, Retirement, retirement, TokenState, at_depth, first_busy, is_clear, dispatch, dispatch_all, Calls, after_load, after_record, after_blocked, after_raise, after_step, next, SetsActive, Retires, MayStep, May}
 use Rattle.ck_epoch.specs.Epochs.{IsOpen}
-use Rattle.ck_epoch.specs.Held.{IsOfWriter, IsOfPass, IsRecord, risen, IsWriter, AreHeld}
-use Rattle.ck_epoch.proofs.Places.{count, open_cases, open_else, open_stays, not_ended}
+use Rattle.ck_epoch.specs.Held.{IsOfWriter, IsOfPass, IsRecordHeld, risen, IsWriterHeld, AreHeld}
+use Rattle.ck_run.proofs.Runs.{count}
+use Rattle.ck_epoch.proofs.OpenSections.{open_cases, open_else, open_stays, not_ended}
 use Rattle.ck_epoch.proofs.Records as pass
 use Rattle.ck_epoch.proofs.RecordsKept as record_
 use Rattle.ck_epoch.proofs.WriterKept as writer
@@ -70,13 +71,13 @@ module _ (records : ℕ) (past : Run) (words : List ℕ) (at : ℕ → TokenStat
 
     pass_goes : length words' ≡ length words → get_or words' 0 0 ≡ E
         → ((m : ℕ) → m < records → m ≢ q → (get_or words' (active_word m) 0 ≡ get_or words (active_word m) 0) × (get_or words' (epoch_word m) 0 ≡ get_or words (epoch_word m) 0))
-        → t.rec ≡ q → (records ≤ q → t.stage ≡ outside) → (q < records → IsRecord now E (get_or words' (active_word q) 0) (get_or words' (epoch_word q) 0) q (at 0) t.stage)
+        → t.rec ≡ q → (records ≤ q → t.stage ≡ outside) → (q < records → IsRecordHeld now E (get_or words' (active_word q) 0) (get_or words' (epoch_word q) 0) q (at 0) t.stage)
         → AreHeld records now words' (moved at n t)
     pass_goes long global others rec none mine =
         let stays : moved at n t 0 ≡ at 0 = moved_else at n 0 t (λ z. absurd (omega arith)) in
         record {
           wide = let w = h.wide in omega arith;
-          writer = subst (λ (x : ℕ × List Entry × TokenState). IsWriter records x.0 x.1 x.2) (λ i. (sym global i, sym (account_else past n 0 e (λ z. absurd (omega arith))) i, sym stays i)) h.writer;
+          writer = subst (λ (x : ℕ × List Entry × TokenState). IsWriterHeld records x.0 x.1 x.2) (λ i. (sym global i, sym (account_else past n 0 e (λ z. absurd (omega arith))) i, sym stays i)) h.writer;
           numbered = λ r. dite (ℕ_discrete q r)
               (λ same. ap (λ (x : TokenState). x.rec) (moved_here at n (suc r) t (ap suc same)) ∙ (rec ∙ same))
               (λ other. ap (λ (x : TokenState). x.rec) (moved_else at n (suc r) t (λ z. absurd (omega arith))) ∙ h.numbered r);
@@ -84,11 +85,11 @@ module _ (records : ℕ) (past : Run) (words : List ℕ) (at : ℕ → TokenStat
               (λ same. ap (λ (x : TokenState). x.stage) (moved_here at n (suc r) t (ap suc same)) ∙ none (omega arith))
               (λ other. ap (λ (x : TokenState). x.stage) (moved_else at n (suc r) t (λ z. absurd (omega arith))) ∙ h.unused r l);
           each = λ r l. dite (ℕ_discrete q r)
-              (λ same. subst (λ (x : ℕ × TokenState × Stage). IsRecord now x.0 (get_or words' (active_word r) 0) (get_or words' (epoch_word r) 0) r x.1 x.2)
+              (λ same. subst (λ (x : ℕ × TokenState × Stage). IsRecordHeld now x.0 (get_or words' (active_word r) 0) (get_or words' (epoch_word r) 0) r x.1 x.2)
               (λ i. (sym global i, sym stays i, sym (ap (λ (x : TokenState). x.stage) (moved_here at n (suc r) t (ap suc same))) i))
-              (subst (λ (x : ℕ). IsRecord now E (get_or words' (active_word x) 0) (get_or words' (epoch_word x) 0) x (at 0) t.stage) same (mine (omega arith))))
+              (subst (λ (x : ℕ). IsRecordHeld now E (get_or words' (active_word x) 0) (get_or words' (epoch_word x) 0) x (at 0) t.stage) same (mine (omega arith))))
               (λ other. let o = others r l (λ z. other (sym z)) in
-              subst (λ (x : ℕ × ℕ × ℕ × TokenState × Stage). IsRecord now x.0 x.1 x.2 r x.3 x.4)
+              subst (λ (x : ℕ × ℕ × ℕ × TokenState × Stage). IsRecordHeld now x.0 x.1 x.2 r x.3 x.4)
               (λ i. (sym global i, sym o.0 i, sym o.1 i, sym stays i, sym (ap (λ (x : TokenState). x.stage) (moved_else at n (suc r) t (λ z. absurd (omega arith)))) i))
               (pass.stays past n e E r (at 0) writer_made (λ z. absurd (omega arith)) (get_or words (active_word r) 0) (get_or words (epoch_word r) 0) (at (suc r)).stage
               (λ o is. open_else past n e r o is (λ z. absurd (omega arith))) (h.each r l)));
@@ -102,28 +103,28 @@ module _ (records : ℕ) (past : Run) (words : List ℕ) (at : ℕ → TokenStat
     same_state : at 0 ≡ W
     same_state i = record (at 0) { stage = is i }
 
-    at_writer : IsWriter records E (account 0 past) W
-    at_writer = subst (IsWriter records E (account 0 past)) same_state h.writer
+    at_writer : IsWriterHeld records E (account 0 past) W
+    at_writer = subst (IsWriterHeld records E (account 0 past)) same_state h.writer
 
     at_made : AreMade (count past 0) W
     at_made = are_made records E (account 0 past) W at_writer
 
     writer_goes : (e : Entry) (t : TokenState) (words' : List ℕ) (E' : ℕ) → length words' ≡ length words → get_or words' 0 0 ≡ E' → ((i : ℕ) → 0 < i → i < base records → get_or words' i 0 ≡ get_or words i 0)
-        → IsWriter records E' (account 0 past ++ e ∷ []) t
-        → ((r : ℕ) → r < records → IsRecord past E (get_or words (active_word r) 0) (get_or words (epoch_word r) 0) r W (at (suc r)).stage
-        → IsRecord (past ++ (0, e) ∷ []) E' (get_or words (active_word r) 0) (get_or words (epoch_word r) 0) r t (at (suc r)).stage)
+        → IsWriterHeld records E' (account 0 past ++ e ∷ []) t
+        → ((r : ℕ) → r < records → IsRecordHeld past E (get_or words (active_word r) 0) (get_or words (epoch_word r) 0) r W (at (suc r)).stage
+        → IsRecordHeld (past ++ (0, e) ∷ []) E' (get_or words (active_word r) 0) (get_or words (epoch_word r) 0) r t (at (suc r)).stage)
         → AreHeld records (past ++ (0, e) ∷ []) words' (moved at 0 t)
     writer_goes e t words' E' long global rest mine turns = let now : Run = past ++ (0, e) ∷ [] in
         let here : moved at 0 t 0 ≡ t = moved_here at 0 0 t refl in
         let others : (r : ℕ) → moved at 0 t (suc r) ≡ at (suc r) = λ r. moved_else at 0 (suc r) t (λ z. absurd (omega arith)) in
         record {
           wide = let w = h.wide in omega arith;
-          writer = subst (λ (x : ℕ × List Entry × TokenState). IsWriter records x.0 x.1 x.2) (λ i. (sym global i, sym (account_here past 0 0 e refl) i, sym here i)) mine;
+          writer = subst (λ (x : ℕ × List Entry × TokenState). IsWriterHeld records x.0 x.1 x.2) (λ i. (sym global i, sym (account_here past 0 0 e refl) i, sym here i)) mine;
           numbered = λ r. ap (λ (x : TokenState). x.rec) (others r) ∙ h.numbered r;
           unused = λ r l. ap (λ (x : TokenState). x.stage) (others r) ∙ h.unused r l;
-          each = λ r l. subst (λ (x : ℕ × ℕ × ℕ × TokenState × Stage). IsRecord now x.0 x.1 x.2 r x.3 x.4)
+          each = λ r l. subst (λ (x : ℕ × ℕ × ℕ × TokenState × Stage). IsRecordHeld now x.0 x.1 x.2 r x.3 x.4)
               (λ i. (sym global i, sym (rest (active_word r) (omega arith) (omega arith)) i, sym (rest (epoch_word r) (omega arith) (omega arith)) i, sym here i, sym (ap (λ (x : TokenState). x.stage) (others r)) i))
-              (turns r l (subst (λ (x : TokenState). IsRecord past E (get_or words (active_word r) 0) (get_or words (epoch_word r) 0) r x (at (suc r)).stage) same_state (h.each r l)));
+              (turns r l (subst (λ (x : TokenState). IsRecordHeld past E (get_or words (active_word r) 0) (get_or words (epoch_word r) 0) r x (at (suc r)).stage) same_state (h.each r l)));
         }
 
   -- the steps of a pass
@@ -137,8 +138,8 @@ module _ (records : ℕ) (past : Run) (words : List ℕ) (at : ℕ → TokenStat
     made_now : AreMade (count past 0) (at 0)
     made_now = are_made records E (account 0 past) (at 0) h.writer
 
-    stands : (g : Stage) → T.stage ≡ g → q < records → IsRecord past E (get_or words (active_word q) 0) (get_or words (epoch_word q) 0) q (at 0) g
-    stands g is l = subst (IsRecord past E (get_or words (active_word q) 0) (get_or words (epoch_word q) 0) q (at 0)) is (h.each q l)
+    stands : (g : Stage) → T.stage ≡ g → q < records → IsRecordHeld past E (get_or words (active_word q) 0) (get_or words (epoch_word q) 0) q (at 0) g
+    stands g is l = subst (IsRecordHeld past E (get_or words (active_word q) 0) (get_or words (epoch_word q) 0) q (at 0)) is (h.each q l)
 
     -- a step that opens no section
     opens_none : (w : ℕ) → word_of e.step ≡ w → w ≢ epoch_word q → (o : ℕ) → IsOpen after q o → IsOpen past q o
@@ -152,15 +153,15 @@ module _ (records : ℕ) (past : Run) (words : List ℕ) (at : ℕ → TokenStat
         → (q < records → (o : ℕ) → IsOpen after q o → IsOpen past q o) → AreHeld records after words' (moved at (suc q) t)
     elsewhere t words' long rest rec stage opened = pass_goes q e t words' long (rest 0 (omega arith)) (λ m l o. (rest (active_word m) (omega arith), rest (epoch_word m) (omega arith)))
         (rec ∙ h.numbered q) (λ l. stage ∙ h.unused q l)
-        (λ l. subst (λ (x : ℕ × ℕ × Stage). IsRecord after E x.0 x.1 q (at 0) x.2) (λ i. (sym (rest (active_word q) (omega arith)) i, sym (rest (epoch_word q) (omega arith)) i, sym stage i))
+        (λ l. subst (λ (x : ℕ × ℕ × Stage). IsRecordHeld after E x.0 x.1 q (at 0) x.2) (λ i. (sym (rest (active_word q) (omega arith)) i, sym (rest (epoch_word q) (omega arith)) i, sym stage i))
         (pass.stays past (suc q) e E q (at 0) made_now (λ z. absurd (omega arith)) (get_or words (active_word q) 0) (get_or words (epoch_word q) 0) T.stage (opened l) (h.each q l)))
 
     -- a store in the active word of its record
-    sets : (t : TokenState) (x : ℕ) → q < records → t.rec ≡ q → IsRecord after E x (get_or words (epoch_word q) 0) q (at 0) t.stage → AreHeld records after (set words (active_word q) x) (moved at (suc q) t)
+    sets : (t : TokenState) (x : ℕ) → q < records → t.rec ≡ q → IsRecordHeld after E x (get_or words (epoch_word q) 0) q (at 0) t.stage → AreHeld records after (set words (active_word q) x) (moved at (suc q) t)
     sets t x l rec mine = let w = h.wide in let i : ℕ = active_word q in
         pass_goes q e t (set words i x) (length-set words i x) (get_or-set_other words i 0 x 0 (omega arith))
         (λ m _ other. (get_or-set_other words i (active_word m) x 0 (omega arith), get_or-set_other words i (epoch_word m) x 0 (omega arith))) rec (λ high. absurd (omega arith))
-        (λ _. subst (λ (z : ℕ × ℕ). IsRecord after E z.0 z.1 q (at 0) t.stage) (λ j. (sym (get_or-set_same words i x 0 (omega arith)) j, sym (get_or-set_other words i (epoch_word q) x 0 (omega arith)) j)) mine)
+        (λ _. subst (λ (z : ℕ × ℕ). IsRecordHeld after E z.0 z.1 q (at 0) t.stage) (λ j. (sym (get_or-set_same words i x 0 (omega arith)) j, sym (get_or-set_other words i (epoch_word q) x 0 (omega arith)) j)) mine)
 
     enters : T.stage ≡ outside → q < records → word_of e.step ≡ active_word q → (c n : ℕ) → AreHeld records after (set words (active_word q) 1) (moved at (suc q) (record T { stage = entering; calls = c; steps = n }))
     enters is l on c n = sets (record T { stage = entering; calls = c; steps = n }) 1 l (h.numbered q)
@@ -176,14 +177,14 @@ module _ (records : ℕ) (past : Run) (words : List ℕ) (at : ℕ → TokenStat
 
     loads : (g : ℕ) → T.stage ≡ entering → q < records → e.step ≡ Load 0 g → g ≡ E → (n : ℕ) → AreHeld records after words (moved at (suc q) (record T { stage = holding g; steps = n }))
     loads g is l on found n = pass_goes q e (record T { stage = holding g; steps = n }) words refl refl (λ m _ o. (refl, refl)) (h.numbered q) (λ high. absurd (omega arith))
-        (λ _. subst (λ (x : ℕ). IsRecord after E (get_or words (active_word q) 0) (get_or words (epoch_word q) 0) q (at 0) (holding x)) (sym found)
+        (λ _. subst (λ (x : ℕ). IsRecordHeld after E (get_or words (active_word q) 0) (get_or words (epoch_word q) 0) q (at 0) (holding x)) (sym found)
         (pass.loads past (suc q) e E q (at 0) made_now (λ z. absurd (omega arith)) (get_or words (active_word q) 0) (get_or words (epoch_word q) 0) (opens_none_load 0 g on) (stands entering is l)))
 
     opens : (g : ℕ) → T.stage ≡ holding g → q < records → (n : ℕ) → AreHeld records after (set words (epoch_word q) g) (moved at (suc q) (record T { stage = inside 1 g; steps = n }))
     opens g is l n = let w = h.wide in let i : ℕ = epoch_word q in
         pass_goes q e (record T { stage = inside 1 g; steps = n }) (set words i g) (length-set words i g) (get_or-set_other words i 0 g 0 (omega arith))
         (λ m _ other. (get_or-set_other words i (active_word m) g 0 (omega arith), get_or-set_other words i (epoch_word m) g 0 (omega arith))) (h.numbered q) (λ high. absurd (omega arith))
-        (λ _. subst (λ (z : ℕ × ℕ). IsRecord after E z.0 z.1 q (at 0) (inside 1 g)) (λ j. (sym (get_or-set_other words i (active_word q) g 0 (omega arith)) j, sym (get_or-set_same words i g 0 (omega arith)) j))
+        (λ _. subst (λ (z : ℕ × ℕ). IsRecordHeld after E z.0 z.1 q (at 0) (inside 1 g)) (λ j. (sym (get_or-set_other words i (active_word q) g 0 (omega arith)) j, sym (get_or-set_same words i g 0 (omega arith)) j))
         (pass.opens past (suc q) e E q (at 0) made_now (λ z. absurd (omega arith)) (get_or words (active_word q) 0) (get_or words (epoch_word q) 0) g
         (λ o was. ⊎_elim (λ old. inl old) (λ new. inr new.0) (open_cases past (suc q) e q o was)) (stands (holding g) is l)))
 
@@ -243,9 +244,9 @@ module _ (records : ℕ) (past : Run) (words : List ℕ) (at : ℕ → TokenStat
     not_reading g is r = roles_apart g (subst IsOfWriter is h.writer.writing) r
 
     -- a load
-    load_goes : (s : Stage) → V.stage ≡ s → (t : TokenState) → (IsWriter records E (account 0 past) (at_stage V s) → IsWriter records E (account 0 past ++ e ∷ []) t)
-        → ((r : ℕ) → r < records → IsRecord past E (get_or words (active_word r) 0) (get_or words (epoch_word r) 0) r (at_stage V s) (at (suc r)).stage
-        → IsRecord then E (get_or words (active_word r) 0) (get_or words (epoch_word r) 0) r t (at (suc r)).stage)
+    load_goes : (s : Stage) → V.stage ≡ s → (t : TokenState) → (IsWriterHeld records E (account 0 past) (at_stage V s) → IsWriterHeld records E (account 0 past ++ e ∷ []) t)
+        → ((r : ℕ) → r < records → IsRecordHeld past E (get_or words (active_word r) 0) (get_or words (epoch_word r) 0) r (at_stage V s) (at (suc r)).stage
+        → IsRecordHeld then E (get_or words (active_word r) 0) (get_or words (epoch_word r) 0) r t (at (suc r)).stage)
         → AreHeld records then words (moved at 0 t)
     load_goes s is t mine turns = writer_goes s is e t words E refl refl (λ i _ _. refl) (mine (at_writer s is)) turns
 
@@ -296,14 +297,14 @@ module _ (records : ℕ) (past : Run) (words : List ℕ) (at : ℕ → TokenStat
       abbrev Before : TokenState
       Before = at_stage V (scanning task v rec busy)
 
-      before : IsWriter records E (account 0 past) (at_stage V (comparing task v rec busy)) → IsWriter records E (account 0 past) Before
+      before : IsWriterHeld records E (account 0 past) (at_stage V (comparing task v rec busy)) → IsWriterHeld records E (account 0 past) Before
       before w = writer.as_scanning records E (account 0 past) V task v rec busy w
 
       before_made : AreMade (count past 0) Before
       before_made = are_made records E (account 0 past) Before (before (at_writer (comparing task v rec busy) is))
 
-      before_record : (r : ℕ) → IsRecord past E (get_or words (active_word r) 0) (get_or words (epoch_word r) 0) r (at_stage V (comparing task v rec busy)) (at (suc r)).stage
-          → IsRecord past E (get_or words (active_word r) 0) (get_or words (epoch_word r) 0) r Before (at (suc r)).stage
+      before_record : (r : ℕ) → IsRecordHeld past E (get_or words (active_word r) 0) (get_or words (epoch_word r) 0) r (at_stage V (comparing task v rec busy)) (at (suc r)).stage
+          → IsRecordHeld past E (get_or words (active_word r) 0) (get_or words (epoch_word r) 0) r Before (at (suc r)).stage
       before_record r g = record_.as_scanning past E (get_or words (active_word r) 0) (get_or words (epoch_word r) 0) r V (at (suc r)).stage task v rec busy g
 
       goes_by : (found : ℕ) → get_or words (epoch_word rec) 0 ≡ v → AreHeld records then words (moved at 0 (record V { stage = scanning task v (rec + 1) (Some found); steps = V.steps + 1 }))
@@ -325,9 +326,9 @@ module _ (records : ℕ) (past : Run) (words : List ℕ) (at : ℕ → TokenStat
 
     -- the global epoch rises, as it is the one that was loaded
     module _ (v : ℕ) (busy : Option ℕ) where
-      raise_goes : (s : Stage) → V.stage ≡ s → v ≡ E → (t : TokenState) → (IsWriter records E (account 0 past) (at_stage V s) → IsWriter records (E + 1) (account 0 past ++ e ∷ []) t)
-          → ((r : ℕ) → r < records → IsRecord past E (get_or words (active_word r) 0) (get_or words (epoch_word r) 0) r (at_stage V s) (at (suc r)).stage
-          → IsRecord then (E + 1) (get_or words (active_word r) 0) (get_or words (epoch_word r) 0) r t (at (suc r)).stage)
+      raise_goes : (s : Stage) → V.stage ≡ s → v ≡ E → (t : TokenState) → (IsWriterHeld records E (account 0 past) (at_stage V s) → IsWriterHeld records (E + 1) (account 0 past ++ e ∷ []) t)
+          → ((r : ℕ) → r < records → IsRecordHeld past E (get_or words (active_word r) 0) (get_or words (epoch_word r) 0) r (at_stage V s) (at (suc r)).stage
+          → IsRecordHeld then (E + 1) (get_or words (active_word r) 0) (get_or words (epoch_word r) 0) r t (at (suc r)).stage)
           → AreHeld records then (set words 0 (v + 1)) (moved at 0 t)
       raise_goes s is same t mine turns = let w = h.wide in
           writer_goes s is e t (set words 0 (v + 1)) (E + 1) (length-set words 0 (v + 1)) (get_or-set_same words 0 (v + 1) 0 (omega arith) ∙ ap (λ (k : ℕ). k + 1) same)

@@ -1,16 +1,19 @@
 mod Emptying
 pub mod FourLists
-pub mod Places
+pub mod OpenSections
 mod Records
 mod RecordsKept
 mod WriterKept
 pub mod Keeps
 pub mod EpochLaw
+mod Insides
+mod Changes
+pub mod Reclaiming
 pub mod Moments
 pub mod Stepping
-mod Sections
+mod SectionSteps
 mod ClientSteps
-mod Retiring
+mod Retirements
 mod Polling
 mod Polled
 mod Counting

@@ -11,7 +11,7 @@ use Rattle.ck_run.specs.Machine.{IsAt, follows_of}
 use Rattle.ck_run.proofs.Moments.{run_weaker, run_before, at_step}
 use Rattle.ck_epoch.specs.declared.about.About.{About}
 use Rattle.ck_epoch.specs.State.{Token, TokenState, Origin, records_of, epochs, state_at, active_word, epoch_word}
-use Rattle.ck_epoch.specs.Held.{IsRecord, IsWriter}
+use Rattle.ck_epoch.specs.Held.{IsRecordHeld, IsWriterHeld}
 use Rattle.ck_epoch.proofs.EpochLaw.{Held, held_after}
 
 abbrev first_or : Entry → List Entry → Entry
@@ -71,23 +71,23 @@ module _ {C : Type 0} (t : Token C) (s : TokenState) (i : IsAt epochs t s) where
   }
 
   -- what holds of the writer
-  pub writer_knows : number t ≡ 0 → (global : ℕ) × IsWriter (records_of (origin t)) global (did t) s
+  pub writer_knows : number t ≡ 0 → (global : ℕ) × IsWriterHeld (records_of (origin t)) global (did t) s
   writer_knows first = let v = sees in let global : ℕ = get_or (replay (origin t).words v.run) 0 0 in (
     global,
-    subst (λ (x : List Entry × TokenState). IsWriter (records_of (origin t)) global x.0 x.1)
+    subst (λ (x : List Entry × TokenState). IsWriterHeld (records_of (origin t)) global x.0 x.1)
         (λ j. ((ap (λ (n : ℕ). account n v.run) (sym first) ∙ v.mine) j, (ap v.at (sym first) ∙ v.state) j)) v.held.writer,
   )
 
   -- and of a pass
   pub pass_knows : (r : ℕ) → number t ≡ suc r → r < records_of (origin t)
-      → (run : Run) × (global : ℕ) × (active : ℕ) × (own : ℕ) × (w : TokenState) × IsRecord run global active own r w s.stage
+      → (run : Run) × (global : ℕ) × (active : ℕ) × (own : ℕ) × (w : TokenState) × IsRecordHeld run global active own r w s.stage
   pass_knows r is low = let v = sees in let words : List ℕ = replay (origin t).words v.run in (
     v.run,
     get_or words 0 0,
     get_or words (active_word r) 0,
     get_or words (epoch_word r) 0,
     v.at 0,
-    subst (λ (x : TokenState). IsRecord v.run (get_or words 0 0) (get_or words (active_word r) 0) (get_or words (epoch_word r) 0) r (v.at 0) x.stage)
+    subst (λ (x : TokenState). IsRecordHeld v.run (get_or words 0 0) (get_or words (active_word r) 0) (get_or words (epoch_word r) 0) r (v.at 0) x.stage)
         (ap v.at (sym is) ∙ v.state) (v.held.each r low),
   )
 

@@ -17,7 +17,7 @@ use Rattle.ck_epoch.specs.Ends.{IsWriting}
 use Rattle.ck_epoch.specs.Calls.{Looked, look_steps, scan_steps, AreInactive, AreCurrent}
 use Rattle.ck_epoch.specs.Scan.{IsFound, is_done, gone_first, IsScanning, Did}
 use Rattle.ck_epoch.proofs.Stepping.{Steps, may_at, state_at_step, writer_holds, writer_loads, writer_finds, opened}
-use Rattle.ck_epoch.proofs.Retiring.{lt_first}
+use Rattle.ck_epoch.proofs.Retirements.{lt_first}
 
 scan_more : (rec : ℕ) (ls : List Looked) (l : Looked) → scan_steps rec (ls ++ l ∷ []) ≡ scan_steps rec ls ++ look_steps (rec + length ls) l
 scan_more rec [] l = append-nil (look_steps rec l) ∙ ap (λ (k : ℕ). look_steps k l) (omega arith)

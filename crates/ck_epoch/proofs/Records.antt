@@ -1,11 +1,11 @@
 -- What a step keeps of one record, of its pass's stage and of the writer.
 use Rattle.std.proofs.Common.{◌≡◌, ◌≢◌, ℕ, ◌<◌, ◌⊎◌, ⊎_elim, Some, [], ◌∷◌, ◌++◌, length, get_or, All, refl, arith}
 use Rattle.ck_run.specs.declared.account.Entry.{Entry}
-use Rattle.ck_run.specs.Run.{Run}
+use Rattle.ck_run.specs.Run.{index_in, Run}
 use Rattle.ck_epoch.specs.State.{Stage, outside, entering, holding, inside, Retirement, TokenState}
-use Rattle.ck_epoch.specs.Epochs.{place, IsOpen}
-use Rattle.ck_epoch.specs.Held.{halfway, IsGuarded, IsOpenAt, IsRecord}
-use Rattle.ck_epoch.proofs.Places.{count, place_stays, place_below}
+use Rattle.ck_epoch.specs.Epochs.{IsOpen}
+use Rattle.ck_epoch.specs.Held.{halfway, GuardsSection, IsOpenAt, IsRecordHeld}
+use Rattle.ck_run.proofs.Runs.{count, index_stays, index_below}
 
 -- the entries that the writer's state names have been made
 pub record AreMade (steps : ℕ) (w : TokenState) : Type 0 where
@@ -16,7 +16,7 @@ pub record AreMade (steps : ℕ) (w : TokenState) : Type 0 where
 
 -- what guards a section depends on the places of entries that have been made
 pub guarded_along : (global r g steps : ℕ) (older older' : ℕ → Type 0) (w : TokenState) → AreMade steps w → ((i : ℕ) → i < steps → older' i → older i)
-    → IsGuarded global older r g w → IsGuarded global older' r g w
+    → GuardsSection global older r g w → GuardsSection global older' r g w
 guarded_along global r g steps older older' w made back h = record {
   pending = λ k d l o. h.pending k d l (back (get_or w.pending k d).number (made.pending k d l) o);
   dispatched = λ k d l o. h.dispatched k d l (back (get_or w.dispatched k d).number (made.dispatched k d l) o);
@@ -31,7 +31,7 @@ open_along global r steps older older' w (inside d g) made back h = guarded_alon
 open_along global r steps older older' w g made back h = h
 
 -- a section that is older than nothing
-young_guarded : (global r g steps : ℕ) (older : ℕ → Type 0) (w : TokenState) → AreMade steps w → ((i : ℕ) → i < steps → ¬ older i) → IsGuarded global older r g w
+young_guarded : (global r g steps : ℕ) (older : ℕ → Type 0) (w : TokenState) → AreMade steps w → ((i : ℕ) → i < steps → ¬ older i) → GuardsSection global older r g w
 young_guarded global r g steps older w made young = record {
   pending = λ k d l o. absurd (young (get_or w.pending k d).number (made.pending k d l) o);
   dispatched = λ k d l o. young (get_or w.dispatched k d).number (made.dispatched k d l) o;
@@ -45,15 +45,15 @@ module _ (past : Run) (n : ℕ) (e : Entry) (global r : ℕ) (w : TokenState) (m
   abbrev now : Run
   now = past ++ (n, e) ∷ []
 
-  back : (o i : ℕ) → i < count past 0 → o < place now 0 i → o < place past 0 i
-  back o i l h = let s = place_stays past ((n, e) ∷ []) 0 i l in omega arith
+  back : (o i : ℕ) → i < count past 0 → o < index_in now 0 i → o < index_in past 0 i
+  back o i l h = let s = index_stays past ((n, e) ∷ []) 0 i l in omega arith
 
   -- where no section opens
-  kept_open : (active own : ℕ) (g : Stage) → IsRecord past global active own r w g → (o : ℕ) → IsOpen past r o → IsOpenAt global (λ i. o < place now 0 i) r w g
-  kept_open active own g h o is = open_along global r (count past 0) (λ i. o < place past 0 i) (λ i. o < place now 0 i) w g made (back o) (h.sections o is)
+  kept_open : (active own : ℕ) (g : Stage) → IsRecordHeld past global active own r w g → (o : ℕ) → IsOpen past r o → IsOpenAt global (λ i. o < index_in now 0 i) r w g
+  kept_open active own g h o is = open_along global r (count past 0) (λ i. o < index_in past 0 i) (λ i. o < index_in now 0 i) w g made (back o) (h.sections o is)
 
   -- a step that is none of this pass's, or on the client's words
-  pub stays : (active own : ℕ) (g : Stage) → ((o : ℕ) → IsOpen now r o → IsOpen past r o) → IsRecord past global active own r w g → IsRecord now global active own r w g
+  pub stays : (active own : ℕ) (g : Stage) → ((o : ℕ) → IsOpen now r o → IsOpen past r o) → IsRecordHeld past global active own r w g → IsRecordHeld now global active own r w g
   stays active own g was h = record {
     reading = h.reading;
     behind = h.behind;
@@ -65,11 +65,11 @@ module _ (past : Run) (n : ℕ) (e : Entry) (global r : ℕ) (w : TokenState) (m
 
   module _ (active own : ℕ) (was : (o : ℕ) → IsOpen now r o → IsOpen past r o) where
     -- the active word becomes 1
-    pub enters : IsRecord past global active own r w outside → IsRecord now global 1 own r w entering
+    pub enters : IsRecordHeld past global active own r w outside → IsRecordHeld now global 1 own r w entering
     enters h = record { reading = tt; behind = h.behind; counted = refl; timely = tt; current = λ p. tt; sections = λ o is. h.sections o (was o is) }
 
     -- the global epoch is loaded
-    pub loads : IsRecord past global active own r w entering → IsRecord now global active own r w (holding global)
+    pub loads : IsRecordHeld past global active own r w entering → IsRecordHeld now global active own r w (holding global)
     loads h = let b = h.behind in record {
       reading = tt;
       behind = h.behind;
@@ -80,7 +80,7 @@ module _ (past : Run) (n : ℕ) (e : Entry) (global r : ℕ) (w : TokenState) (m
     }
 
     -- a section nests, or a nested one ends
-    pub deepens : (d d' g : ℕ) → 0 < d' → IsRecord past global active own r w (inside d g) → IsRecord now global d' own r w (inside d' g)
+    pub deepens : (d d' g : ℕ) → 0 < d' → IsRecordHeld past global active own r w (inside d g) → IsRecordHeld now global d' own r w (inside d' g)
     deepens d d' g some h = let t = h.timely in record {
       reading = tt;
       behind = h.behind;
@@ -91,7 +91,7 @@ module _ (past : Run) (n : ℕ) (e : Entry) (global r : ℕ) (w : TokenState) (m
     }
 
   -- the record's epoch is stored: a section opens, and there was none
-  pub opens : (active own g : ℕ) → ((o : ℕ) → IsOpen now r o → IsOpen past r o ⊎ (o ≡ length past)) → IsRecord past global active own r w (holding g) → IsRecord now global active g r w (inside 1 g)
+  pub opens : (active own g : ℕ) → ((o : ℕ) → IsOpen now r o → IsOpen past r o ⊎ (o ≡ length past)) → IsRecordHeld past global active own r w (holding g) → IsRecordHeld now global active g r w (inside 1 g)
   opens active own g cases h = let t = h.timely in record {
     reading = tt;
     behind = t.0;
@@ -100,11 +100,11 @@ module _ (past : Run) (n : ℕ) (e : Entry) (global r : ℕ) (w : TokenState) (m
     current = h.current;
     sections = λ o is. ⊎_elim
         (λ (old : IsOpen past r o). absurd (h.sections o old))
-        (λ (new : o ≡ length past). young_guarded global r g (count past 0) (λ i. o < place now 0 i) w made
-        (λ i l older. let b = place_below past 0 i l in let c = back o i l older in absurd (omega arith)))
+        (λ (new : o ≡ length past). young_guarded global r g (count past 0) (λ i. o < index_in now 0 i) w made
+        (λ i l older. let b = index_below past 0 i l in let c = back o i l older in absurd (omega arith)))
         (cases o is);
   }
 
   -- the last section ends
-  pub leaves : (active own d g : ℕ) → ((o : ℕ) → IsOpen now r o → ⊥) → IsRecord past global active own r w (inside d g) → IsRecord now global 0 own r w outside
+  pub leaves : (active own d g : ℕ) → ((o : ℕ) → IsOpen now r o → ⊥) → IsRecordHeld past global active own r w (inside d g) → IsRecordHeld now global 0 own r w outside
   leaves active own d g none h = record { reading = tt; behind = h.behind; counted = refl; timely = tt; current = λ p. tt; sections = λ o is. none o is }

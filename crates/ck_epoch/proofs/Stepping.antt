@@ -12,7 +12,7 @@ use Rattle.ck_epoch.specs.State.{Origin, IsOpening, Token, TokenState, Stage, Ma
 use Rattle.ck_epoch.specs.Client.{Client, Passes, IsGuarded, program}
 use Rattle.ck_epoch.specs.Ends.{IsInRun}
 use Rattle.ck_epoch.specs.Calls.{MayFollow}
-use Rattle.ck_epoch.specs.Held.{IsWriter}
+use Rattle.ck_epoch.specs.Held.{IsWriterHeld}
 use Rattle.ck_epoch.proofs.Moments.{sees, writer_knows, loads_global, finds_global}
 
 module _ {C : Type 0} (client : Client C) where
@@ -72,7 +72,7 @@ module _ {C : Type 0} (client : Client C) where
   at_epochs t p = record { part = part_weaker (program client) (follows_of epochs) (origin t) t.view.own (weaker (origin t)) p; state = refl }
 
   -- what the law of epochs says of the writer between two of its steps
-  pub writer_holds : (t : Token C) → IsInRun client t → number t ≡ 0 → (global : ℕ) × IsWriter (records_of (origin t)) global (did t) (state t)
+  pub writer_holds : (t : Token C) → IsInRun client t → number t ≡ 0 → (global : ℕ) × IsWriterHeld (records_of (origin t)) global (did t) (state t)
   writer_holds t p first = writer_knows t (state t) (at_epochs t p) first
 
   -- what it loads from the first word, or finds there, is the global epoch as it knows it

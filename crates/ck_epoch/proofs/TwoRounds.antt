@@ -6,23 +6,24 @@ use Rattle.std.proofs.lemmas.List.Elements.{All-push, All-nil}
 use Rattle.ck_run.specs.declared.account.Step.{Step}
 use Rattle.ck_run.specs.declared.account.Step.TheVariants.{Load, Exchange}
 use Rattle.ck_run.specs.declared.account.Entry.{Entry}
-use Rattle.ck_run.specs.Run.{Run, entry, further, account}
+use Rattle.ck_run.specs.Run.{index_in, Run, entry, further, account}
 use Rattle.ck_run.specs.Rule.{IsRun}
 use Rattle.ck_run.specs.Machine.{follows_of, IsAt}
 use Rattle.ck_run.specs.Tokens.{Table, table, did, origin, number, adding, MayMake}
 use Rattle.ck_run.proofs.Moments.{run_weaker, run_before, part_weaker, table_stays, number_stays, adds_one, adding-append}
 use Rattle.ck_epoch.specs.declared.about.About.{About}
 use Rattle.ck_epoch.specs.State.{base, synchronize, barrier, poll, Task, polling, first_round, second_round, Stage, free, scanning, between, TokenState, Retires, Calls, after_load, after_raise, Origin, Token, records_of, epochs, queue, state, state_at}
-use Rattle.ck_epoch.specs.Epochs.{place, IsOpen}
+use Rattle.ck_epoch.specs.Epochs.{IsOpen}
 use Rattle.ck_epoch.specs.Held.{IsScan}
 use Rattle.ck_epoch.specs.Client.{Client, Passes, program}
 use Rattle.ck_epoch.specs.Lists.{Backlog, AreListsOf, AreRetired}
 use Rattle.ck_epoch.specs.Ends.{IsInRun, IsWriter as IsBetween}
 use Rattle.ck_epoch.specs.Calls.{Looked}
-use Rattle.ck_epoch.specs.Rounds.{wait_steps, IsWait, waits_steps, IsRound, IsWaiting, name_of, after_rounds, Rounds, HaveEnded, IsScanning, ScansOn, IsFree}
+use Rattle.ck_epoch.specs.Rounds.{wait_steps, IsWait, waits_steps, IsRound, IsWaiting, name_of, after_rounds, Rounds, HaveEnded, IsInRound, ScansOn, IsFree}
 use Rattle.ck_epoch.proofs.Stepping.{Steps, may_epochs, state_after_step}
 use Rattle.ck_epoch.proofs.EpochLaw.{held_after, has_waited}
-use Rattle.ck_epoch.proofs.Places.{count, place_stays, place_below, was_open, cut}
+use Rattle.ck_run.proofs.Runs.{count, index_stays, index_below, cut}
+use Rattle.ck_epoch.proofs.OpenSections.{was_open}
 use Rattle.ck_epoch.proofs.Moments.{writer_knows, loads_global, finds_global}
 use Rattle.ck_epoch.proofs.Waits.{HasPassed, next_at, may_at, scans_both, scans_none, adds_none}
 
@@ -41,7 +42,7 @@ raise_same polling w s g n m e = absurd w
 -- the token t has waited for the records below `rec` since it was t0
 pub record HasWaited {C : Type 0} (client : Client C) (e rec : ℕ) (t0 t : Token C) : Type 0 where
   pub same : table t ≡ table t0
-  pub scans : IsScanning client e rec t
+  pub scans : IsInRound client e rec t
   pub on : ScansOn e 0 rec t0 t
   pub waits : List (List Looked)
   pub count : length waits ≡ rec
@@ -49,7 +50,7 @@ pub record HasWaited {C : Type 0} (client : Client C) (e rec : ℕ) (t0 t : Toke
   pub did : t ≡ adding t0 (map further (waits_steps 0 waits))
 
 module _ {C : Type 0} (client : Client C) (e : ℕ) where
-  pub not_waited : (t : Token C) → IsScanning client e 0 t → HasWaited client e 0 t t
+  pub not_waited : (t : Token C) → IsInRound client e 0 t → HasWaited client e 0 t t
   not_waited t i = record { same = refl; scans = i; on = scans_none client e 0 t; waits = []; count = refl; each = All-nil (IsWait e); did = adds_none t }
 
   pub waits_more : (rec : ℕ) (t0 t u : Token C) → HasWaited client e rec t0 t → HasPassed client e rec t u → HasWaited client e (rec + 1) t0 u
@@ -71,7 +72,7 @@ module _ {C : Type 0} (client : Client C) (passes : Passes client) where
   in_epochs t p = record { part = part_weaker (program client) (follows_of epochs) (origin t) t.view.own (λ n es h. h.0) p; state = refl }
 
   -- the number of an epoch is small
-  pub small : (e rec : ℕ) (t : Token C) → IsScanning client e rec t → (e ≡ (state t).epoch) × (e + 1 < 2 ^ 64)
+  pub small : (e rec : ℕ) (t : Token C) → IsInRound client e rec t → (e ≡ (state t).epoch) × (e + 1 < 2 ^ 64)
   small e rec t i = let k = writer_knows t (state t) (in_epochs t i.part) i.first in let w = k.1 in
       let scan = subst (λ (g : Stage). IsScan (records_of (origin t)) k.0 (length (did t)) g) i.stage w.scan in
       let epoch = w.epoch in let bound = w.bounded in let few = w.few in
@@ -168,7 +169,7 @@ module _ {C : Type 0} (client : Client C) (passes : Passes client) (t : Token C)
         ∙ (ap (λ (b : Bool). record (cond b (after_load S opens [] e) S) { steps = S.steps + 1 }) (is_small (records_of (origin t)))
         ∙ ap (λ (s : TokenState). record s { steps = S.steps + 1 }) (begins_as all opens name S e)))
 
-    pub first_scan : IsScanning client e 0 u
+    pub first_scan : IsInRound client e 0 u
     first_scan = record {
       part = made.1;
       first = number_stays (program client) t u (entry opens (Load 0 e)) made ∙ f.first;
@@ -199,7 +200,7 @@ module _ {C : Type 0} (client : Client C) (passes : Passes client) (t : Token C)
         again = state_after_step client w x (further (Load 0 e')) made' ∙ (next_at (records_of (origin w)) (state w) (between all S.steps) [] (Load 0 e') (ap (λ (s : TokenState). s.stage) halfway)
             ∙ ap (λ (s : TokenState). record s { stage = scanning (second_round all S.steps) e' 0 None; steps = (state w).steps + 1 }) halfway)
 
-        pub second_scan : IsScanning client e' 0 x
+        pub second_scan : IsInRound client e' 0 x
         second_scan = record {
           part = made'.1;
           first = number_stays (program client) w x (further (Load 0 e')) made' ∙ first_there;
@@ -246,9 +247,9 @@ have_ended client passes t u n all f same first is past rest more run made r o l
     let waited = ap (λ (s : TokenState). s.waited) (there ∙ is) in
     let w = (writer_knows t (state t) (in_epochs client passes t f.part) f.first).1 in
     let begun : (state t).steps < count k.before 0 = (held_after org k.before then).writer.waited (state t).steps waited in
-    let stays = ap (λ (p : Run). place p 0 (state t).steps) k.whole ∙ place_stays k.before k.since 0 (state t).steps begun in
-    let early : o < place k.before 0 (state t).steps = let z = ap (place past 0) w.steps in omega arith in
-    let below = place_below k.before 0 (state t).steps begun in
+    let stays = ap (λ (p : Run). index_in p 0 (state t).steps) k.whole ∙ index_stays k.before k.since 0 (state t).steps begun in
+    let early : o < index_in k.before 0 (state t).steps = let z = ap (index_in past 0) w.steps in omega arith in
+    let below = index_below k.before 0 (state t).steps begun in
     has_waited org k.before then r o (state t).steps low (was_open k.before k.since r o (omega arith) (subst (λ (p : Run). IsOpen p r o) k.whole open_)) waited early
 
 -- the writer between two calls, before and after two rounds

@@ -12,7 +12,7 @@ use Rattle.ck_epoch.specs.State.{active_word, epoch_word, Task, polling, first_r
 use Rattle.ck_epoch.specs.Client.{Client, Passes, program}
 use Rattle.ck_epoch.specs.Ends.{IsInRun}
 use Rattle.ck_epoch.specs.Calls.{Looked, look_steps}
-use Rattle.ck_epoch.specs.Rounds.{wait_steps, IsPast, IsWait, IsWaiting, IsScanning, ScansOn}
+use Rattle.ck_epoch.specs.Rounds.{wait_steps, IsPast, IsWait, IsWaiting, IsInRound, ScansOn}
 use Rattle.ck_epoch.proofs.Stepping.{Steps, may_epochs, state_after_step}
 
 never_clear : (task : Task) → IsWaiting task → (b : Bool) (busy : Option ℕ) → (b && is_clear task busy) ≡ false
@@ -44,7 +44,7 @@ with_steps s s' g n e = e ∙ λ i. record s { stage = g; steps = ap (λ (x : To
 
 module _ {C : Type 0} (client : Client C) where
   -- a token that goes on within a scan is within it
-  scans_there : (e from to : ℕ) (t u : Token C) → IsScanning client e from t → IsInRun client u → number u ≡ number t → ScansOn e from to t u → IsScanning client e to u
+  scans_there : (e from to : ℕ) (t u : Token C) → IsInRound client e from t → IsInRun client u → number u ≡ number t → ScansOn e from to t u → IsInRound client e to u
   scans_there e from to t u i part same on = let r = on i.task i.waits i.busy i.stage in record {
     part = part;
     first = same ∙ i.first;
@@ -90,7 +90,7 @@ module _ {C : Type 0} where
       (sym (map-append further (wait_steps rec before) steps) ∙ ap (map further) (ap (λ (z : List Step). wait_steps rec before ++ z) (sym is) ∙ sym (wait_snoc rec before l)))
 
 -- A look at the record `rec`, by the token t that made these looks since it was t0
-module _ {C : Type 0} (client : Client C) (passes : Passes client) (e rec : ℕ) (t0 t : Token C) (i : IsScanning client e rec t) (low : rec < records_of (origin t)) where
+module _ {C : Type 0} (client : Client C) (passes : Passes client) (e rec : ℕ) (t0 t : Token C) (i : IsInRound client e rec t) (low : rec < records_of (origin t)) where
   abbrev R : ℕ
   R = records_of (origin t)
 
@@ -121,7 +121,7 @@ module _ {C : Type 0} (client : Client C) (passes : Passes client) (e rec : ℕ)
             ∙ ap (λ (s : TokenState). record s { steps = (state t).steps + 1 }) (record_waits R task w (state t) e rec busy))),
       )
 
-      pub there_inactive : IsScanning client e (rec + 1) u
+      pub there_inactive : IsInRound client e (rec + 1) u
       there_inactive = scans_there client e rec (rec + 1) t u i made.1 same_number on_inactive
 
       pub waits_inactive : (before : List Looked) → All (λ (l : Looked). ¬ IsPast e l) before → Looks rec before t0 t → (looks : List Looked) × IsWait e looks × Looks rec looks t0 u
@@ -176,10 +176,10 @@ module _ {C : Type 0} (client : Client C) (passes : Passes client) (e rec : ℕ)
               ∙ ap (λ (s : TokenState). record s { steps = (state t).steps + 1 + 1 }) (blocked_waits task w (compares task busy) e rec busy))),
         )
 
-        pub there_current : found ≡ e → IsScanning client e (rec + 1) v
+        pub there_current : found ≡ e → IsInRound client e (rec + 1) v
         there_current same = scans_there client e rec (rec + 1) t v i made'.1 number_too (on_current same)
 
-        pub there_other : found ≢ e → IsScanning client e rec v
+        pub there_other : found ≢ e → IsInRound client e rec v
         there_other other = scans_there client e rec rec t v i made'.1 number_too (on_other other)
 
         abbrev look : Looked
@@ -208,7 +208,7 @@ in_range {C = C} rec t0 t d a b low = subst (λ (x : Table (About C)). rec < rec
 -- the token t has looked at the record, always in vain, since it was t0
 pub record HasLooked {C : Type 0} (client : Client C) (e rec : ℕ) (t0 t : Token C) : Type 0 where
   pub same : table t ≡ table t0
-  pub scans : IsScanning client e rec t
+  pub scans : IsInRound client e rec t
   pub on : ScansOn e rec rec t0 t
   pub looks : List Looked
   pub others : All (λ (l : Looked). ¬ IsPast e l) looks
@@ -218,10 +218,10 @@ pub record HasLooked {C : Type 0} (client : Client C) (e rec : ℕ) (t0 t : Toke
 pub record HasPassed {C : Type 0} (client : Client C) (e rec : ℕ) (t0 t : Token C) : Type 0 where
   pub same : table t ≡ table t0
   pub did : (looks : List Looked) × IsWait e looks × Looks rec looks t0 t
-  pub scans : IsScanning client e (rec + 1) t × ScansOn e rec (rec + 1) t0 t
+  pub scans : IsInRound client e (rec + 1) t × ScansOn e rec (rec + 1) t0 t
 
 module _ {C : Type 0} (client : Client C) (passes : Passes client) (e rec : ℕ) where
-  pub not_looked : (t : Token C) → IsScanning client e rec t → HasLooked client e rec t t
+  pub not_looked : (t : Token C) → IsInRound client e rec t → HasLooked client e rec t t
   not_looked t i = record { same = refl; scans = i; on = scans_none client e rec t; looks = []; others = All-nil (λ (l : Looked). ¬ IsPast e l); did = adds_none t }
 
   module _ (t0 t : Token C) (h : HasLooked client e rec t0 t) (low : rec < records_of (origin t)) (word : ℕ) (is : word ≡ active_word rec) where

@@ -9,8 +9,8 @@ use Rattle.ck_run.specs.Run.{handing}
 use Rattle.ck_epoch.specs.Lists.{is_on}
 use Rattle.ck_epoch.specs.State.{Task, polling, first_round, second_round, Stage, free, scanning, comparing, between, Retirement, retirement, TokenState, list_by_list, dispatch, dispatch_all}
 use Rattle.ck_epoch.specs.Epochs.{IsRetired}
-use Rattle.ck_epoch.specs.Held.{halfway, due, risen, IsBegun, IsScan, IsWriter}
-use Rattle.ck_epoch.proofs.Places.{inside}
+use Rattle.ck_epoch.specs.Held.{halfway, due, risen, IsBegun, IsScan, IsWriterHeld}
+use Rattle.ck_run.proofs.Lists.{inside}
 use Rattle.ck_epoch.proofs.Records.{AreMade}
 use Rattle.ck_epoch.proofs.RecordsKept.{at_stage, All-four, none_some, some_same}
 
@@ -46,7 +46,7 @@ half_begun records global steps (comparing (second_round all started) x rec busy
 half_begun records global steps s c first e = none_some first e
 
 -- the entries that its state names have been made
-pub are_made : (records global : ℕ) (entries : List Entry) (w : TokenState) → IsWriter records global entries w → AreMade (length entries) w
+pub are_made : (records global : ℕ) (entries : List Entry) (w : TokenState) → IsWriterHeld records global entries w → AreMade (length entries) w
 are_made records global entries w h = record {
   pending = λ k d l. let p = (h.pending k d l).0 in inside entries (get_or w.pending k d).number _ p.1;
   dispatched = λ k d l. let p = h.dispatched k d l in inside entries (get_or w.dispatched k d).number _ p.1;
@@ -58,8 +58,8 @@ abbrev IsPending : ℕ → List Entry → ℕ → Retirement → Type 0
 IsPending global entries up k = IsRetired entries k × (k.retired.epoch + up ≤ global)
 
 -- the comparison of a record's epoch is a part of the scan
-pub as_scanning : (records global : ℕ) (entries : List Entry) (w : TokenState) (task : Task) (e rec : ℕ) (busy : Option ℕ) → IsWriter records global entries (at_stage w (comparing task e rec busy))
-    → IsWriter records global entries (at_stage w (scanning task e rec busy))
+pub as_scanning : (records global : ℕ) (entries : List Entry) (w : TokenState) (task : Task) (e rec : ℕ) (busy : Option ℕ) → IsWriterHeld records global entries (at_stage w (comparing task e rec busy))
+    → IsWriterHeld records global entries (at_stage w (scanning task e rec busy))
 as_scanning records global entries w task e rec busy h = let b = h.bounded in let d = due_comparing task e rec busy in let c = h.scan in let low = c.1 in record {
   writing = tt;
   steps = h.steps;
@@ -97,7 +97,7 @@ module _ (records global : ℕ) (entries : List Entry) (e : Entry) (w : TokenSta
   waited_more waited h first z = let b = h first z in let l = long in omega arith
 
   -- a step on the client's words
-  pub elsewhere : IsWriter records global entries (at_stage w free) → IsWriter records global more (record w { stage = free; steps = w.steps + 1 })
+  pub elsewhere : IsWriterHeld records global entries (at_stage w free) → IsWriterHeld records global more (record w { stage = free; steps = w.steps + 1 })
   elsewhere h = let s = h.steps in let l = long in record {
     writing = tt;
     steps = omega arith;
@@ -112,8 +112,8 @@ module _ (records global : ℕ) (entries : List Entry) (e : Entry) (w : TokenSta
   }
 
   -- the load at which an item is retired
-  pub retires : (opens : List ℕ) (at log found : ℕ) → e ≡ handing opens (at ∷ log ∷ []) (Load 0 found) → found ≡ global → w.calls < 2 ^ 40 → IsWriter records global entries (at_stage w free)
-      → IsWriter records global more (record w { stage = free; calls = w.calls + 1; pending = w.pending ++ retirement w.steps at log found ∷ []; steps = w.steps + 1 })
+  pub retires : (opens : List ℕ) (at log found : ℕ) → e ≡ handing opens (at ∷ log ∷ []) (Load 0 found) → found ≡ global → w.calls < 2 ^ 40 → IsWriterHeld records global entries (at_stage w free)
+      → IsWriterHeld records global more (record w { stage = free; calls = w.calls + 1; pending = w.pending ++ retirement w.steps at log found ∷ []; steps = w.steps + 1 })
   retires opens at log found is same fewer h = let s = h.steps in let l = long in let b = h.bounded in record {
     writing = tt;
     steps = omega arith;
@@ -129,8 +129,8 @@ module _ (records global : ℕ) (entries : List Entry) (e : Entry) (w : TokenSta
   }
 
   -- the load at which a poll begins
-  pub polls : (found : ℕ) → found ≡ global → w.calls < 2 ^ 40 → IsWriter records global entries (at_stage w free)
-      → IsWriter records global more (record (dispatch (found - 2) w) { stage = scanning polling found 0 None; calls = w.calls + 1; steps = w.steps + 1 })
+  pub polls : (found : ℕ) → found ≡ global → w.calls < 2 ^ 40 → IsWriterHeld records global entries (at_stage w free)
+      → IsWriterHeld records global more (record (dispatch (found - 2) w) { stage = scanning polling found 0 None; calls = w.calls + 1; steps = w.steps + 1 })
   polls found same fewer h = let s = h.steps in let l = long in let b = h.bounded in let pending = pending_more global 0 0 (λ x b. b) h.pending in record {
     writing = tt;
     steps = omega arith;
@@ -146,8 +146,8 @@ module _ (records global : ℕ) (entries : List Entry) (e : Entry) (w : TokenSta
   }
 
   -- the load at which `synchronize` or `barrier` begins
-  pub begins : (all : Bool) (found : ℕ) → found ≡ global → w.calls < 2 ^ 40 → IsWriter records global entries (at_stage w free)
-      → IsWriter records global more (record w { stage = scanning (first_round all w.steps) found 0 None; calls = w.calls + 1; steps = w.steps + 1 })
+  pub begins : (all : Bool) (found : ℕ) → found ≡ global → w.calls < 2 ^ 40 → IsWriterHeld records global entries (at_stage w free)
+      → IsWriterHeld records global more (record w { stage = scanning (first_round all w.steps) found 0 None; calls = w.calls + 1; steps = w.steps + 1 })
   begins all found same fewer h = let s = h.steps in let l = long in let b = h.bounded in record {
     writing = tt;
     steps = omega arith;
@@ -162,8 +162,8 @@ module _ (records global : ℕ) (entries : List Entry) (e : Entry) (w : TokenSta
   }
 
   -- the load at which the second round begins
-  pub goes_on : (all : Bool) (started found : ℕ) → found ≡ global → IsWriter records global entries (at_stage w (between all started))
-      → IsWriter records global more (record w { stage = scanning (second_round all started) found 0 None; steps = w.steps + 1 })
+  pub goes_on : (all : Bool) (started found : ℕ) → found ≡ global → IsWriterHeld records global entries (at_stage w (between all started))
+      → IsWriterHeld records global more (record w { stage = scanning (second_round all started) found 0 None; steps = w.steps + 1 })
   goes_on all started found same h = let s = h.steps in let l = long in let c = h.scan in record {
     writing = tt;
     steps = omega arith;
@@ -178,9 +178,9 @@ module _ (records global : ℕ) (entries : List Entry) (e : Entry) (w : TokenSta
   }
 
   -- a scan
-  module _ (task : Task) (found rec : ℕ) (busy : Option ℕ) (h : IsWriter records global entries (at_stage w (scanning task found rec busy))) where
+  module _ (task : Task) (found rec : ℕ) (busy : Option ℕ) (h : IsWriterHeld records global entries (at_stage w (scanning task found rec busy))) where
     -- goes on with this record
-    pub scans : (rec' : ℕ) (busy' : Option ℕ) → rec' ≤ records → IsWriter records global more (record w { stage = scanning task found rec' busy'; steps = w.steps + 1 })
+    pub scans : (rec' : ℕ) (busy' : Option ℕ) → rec' ≤ records → IsWriterHeld records global more (record w { stage = scanning task found rec' busy'; steps = w.steps + 1 })
     scans rec' busy' low = let s = h.steps in let l = long in let c = h.scan in let b = h.bounded in let d = due_same task found rec rec' busy busy' in record {
       writing = tt;
       steps = omega arith;
@@ -195,7 +195,7 @@ module _ (records global : ℕ) (entries : List Entry) (e : Entry) (w : TokenSta
     }
 
     -- compares the epoch of this record
-    pub compares : rec < records → IsWriter records global more (record w { stage = comparing task found rec busy; steps = w.steps + 1 })
+    pub compares : rec < records → IsWriterHeld records global more (record w { stage = comparing task found rec busy; steps = w.steps + 1 })
     compares low = let s = h.steps in let l = long in let c = h.scan in let b = h.bounded in let d = due_comparing task found rec busy in record {
       writing = tt;
       steps = omega arith;
@@ -209,9 +209,9 @@ module _ (records global : ℕ) (entries : List Entry) (e : Entry) (w : TokenSta
       waited = waited_more w.waited h.waited;
     }
 
-  module _ (found rec : ℕ) (busy : Option ℕ) (h : IsWriter records global entries (at_stage w (scanning polling found rec busy))) where
+  module _ (found rec : ℕ) (busy : Option ℕ) (h : IsWriterHeld records global entries (at_stage w (scanning polling found rec busy))) where
     -- a poll is blocked
-    pub gives_up : IsWriter records global more (record w { stage = free; steps = w.steps + 1 })
+    pub gives_up : IsWriterHeld records global more (record w { stage = free; steps = w.steps + 1 })
     gives_up = let s = h.steps in let l = long in let b = h.bounded in record {
       writing = tt;
       steps = omega arith;
@@ -226,7 +226,7 @@ module _ (records global : ℕ) (entries : List Entry) (e : Entry) (w : TokenSta
     }
 
     -- a poll found no record active
-    pub clears : IsWriter records global more (record (dispatch_all w) { stage = free; steps = w.steps + 1 })
+    pub clears : IsWriterHeld records global more (record (dispatch_all w) { stage = free; steps = w.steps + 1 })
     clears = let s = h.steps in let l = long in let b = h.bounded in record {
       writing = tt;
       steps = omega arith;
@@ -242,7 +242,7 @@ module _ (records global : ℕ) (entries : List Entry) (e : Entry) (w : TokenSta
     }
 
     -- a poll raises the global epoch
-    pub raises : IsWriter records (global + 1) more (record (dispatch (found - 1) w) { stage = free; epoch = found + 1; steps = w.steps + 1 })
+    pub raises : IsWriterHeld records (global + 1) more (record (dispatch (found - 1) w) { stage = free; epoch = found + 1; steps = w.steps + 1 })
     raises = let s = h.steps in let l = long in let b = h.bounded in let c = h.scan in let t = h.late in let pending = pending_more (global + 1) 0 0 (λ x b. omega arith) h.pending in record {
       writing = tt;
       steps = omega arith;
@@ -258,8 +258,8 @@ module _ (records global : ℕ) (entries : List Entry) (e : Entry) (w : TokenSta
     }
 
   -- the first round raises it
-  pub raises_first : (all : Bool) (started found rec : ℕ) (busy : Option ℕ) → IsWriter records global entries (at_stage w (scanning (first_round all started) found rec busy))
-      → IsWriter records (global + 1) more (record w { stage = between all started; epoch = found + 1; steps = w.steps + 1 })
+  pub raises_first : (all : Bool) (started found rec : ℕ) (busy : Option ℕ) → IsWriterHeld records global entries (at_stage w (scanning (first_round all started) found rec busy))
+      → IsWriterHeld records (global + 1) more (record w { stage = between all started; epoch = found + 1; steps = w.steps + 1 })
   raises_first all started found rec busy h = let s = h.steps in let l = long in let b = h.bounded in let c = h.scan in let t = h.late in record {
     writing = tt;
     steps = omega arith;
@@ -274,8 +274,8 @@ module _ (records global : ℕ) (entries : List Entry) (e : Entry) (w : TokenSta
   }
 
   -- and the second
-  pub raises_second : (all : Bool) (started found rec : ℕ) (busy : Option ℕ) → IsWriter records global entries (at_stage w (scanning (second_round all started) found rec busy))
-      → IsWriter records (global + 1) more (record (cond all (dispatch_all w) w) { stage = free; epoch = found + 1; waited = Some started; steps = w.steps + 1 })
+  pub raises_second : (all : Bool) (started found rec : ℕ) (busy : Option ℕ) → IsWriterHeld records global entries (at_stage w (scanning (second_round all started) found rec busy))
+      → IsWriterHeld records (global + 1) more (record (cond all (dispatch_all w) w) { stage = free; epoch = found + 1; waited = Some started; steps = w.steps + 1 })
   raises_second all started found rec busy h = let s = h.steps in let l = long in let b = h.bounded in let c = h.scan in let t = h.late in let first = c.2 in
       let pending : All (IsPending (global + 1) more 0) w.pending = pending_more (global + 1) 1 0 (λ x b. omega arith) h.pending in
       let lists : (all : Bool) → All (IsPending (global + 1) more 0) (cond all (dispatch_all w) w).pending × All (IsRetired more) (cond all (dispatch_all w) w).dispatched = λ all. elim all as

@@ -4,6 +4,7 @@ use Rattle.ck_run.specs.declared.account.Step.{Step}
 use Rattle.ck_run.specs.declared.account.Step.TheVariants.{Load, Store, Exchange}
 use Rattle.ck_run.specs.declared.account.Entry.{Entry}
 use Rattle.ck_run.specs.Run.{call}
+use Rattle.ck_run.specs.Range.{word_of}
 use Rattle.ck_run.specs.Tokens.{did, origin, number, adding}
 use Rattle.ck_epoch.specs.declared.item.Retired.{Retired}
 use Rattle.ck_epoch.specs.declared.answers.Poll.{Poll}
@@ -111,3 +112,7 @@ module _ {C : Type 0} where
   -- the client allows the token this step
   abbrev pub MayFollow : Client C → Token C → Entry → Type 0
   MayFollow client t e = client.follows (base_of (origin t)) (origin t) (number t) (did t ++ e ∷ [])
+
+  -- The steps from t to u are below this word, and hand nothing over
+  abbrev pub StepsBelow : ℕ → Token C → Token C → Type 0
+  StepsBelow word t u = (es : List Entry) × (u ≡ adding t es) × All (λ (e : Entry). (word_of e.step < word) × (e.item ≡ [])) es

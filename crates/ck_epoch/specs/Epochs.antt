@@ -1,19 +1,13 @@
 -- Reclamation: which runs are safe, and what holds of the epochs at each moment. All is read off the run by the steps of the calls.
-use Rattle.std.specs.Prelude.{◌≡◌, ℕ, zero, suc, ◌+◌, ◌%◌, ◌<◌, ◌≤◌, Some, List, [], ◌∷◌, ◌++◌, cond, ◌==◌, slice_index, All}
+use Rattle.std.specs.Prelude.{◌≡◌, ℕ, suc, ◌+◌, ◌%◌, ◌<◌, ◌≤◌, ◌⊎◌, Some, List, [], ◌∷◌, ◌++◌, length, slice_index, All, Contains}
 use mathlib.Core.Option.{some}
 use lib.ListN.{get_elem?}
 use Rattle.ck_run.specs.declared.account.Step.TheVariants.{Load, Store}
 use Rattle.ck_run.specs.declared.account.Entry.{Entry}
-use Rattle.ck_run.specs.Run.{Run, handing, replay, account}
+use Rattle.ck_run.specs.Run.{Run, handing, replay, account, index_in}
 use Rattle.ck_run.specs.Rule.{IsRun}
 use Rattle.ck_run.specs.Machine.{follows_of}
-use Rattle.ck_epoch.specs.State.{active_word, epoch_word, Stage, holding, scanning, comparing, Retirement, TokenState, on_list, Origin, records_of, epochs, state_at}
-
--- Where in the run the entry of this number stands in the account of the token n: how many steps of all tokens were made before it
-abbrev pub place : Run → ℕ → ℕ → ℕ
-place [] n i = 0
-place (x ∷ run) n zero = cond (x.0 == n) 0 (suc (place run n zero))
-place (x ∷ run) n (suc i) = suc (place run n (cond (x.0 == n) i (suc i)))
+use Rattle.ck_epoch.specs.State.{active_word, epoch_word, Stage, holding, scanning, comparing, depth_of, Retirement, retirement, TokenState, on_list, Origin, records_of, epochs, state_at}
 
 -- The step o of the run opens a section of the record r: its pass stores the record's epoch
 abbrev pub Opens : Run → ℕ → ℕ → Type 0
@@ -30,11 +24,24 @@ pub record IsOpen (run : Run) (r o : ℕ) : Type 0 where
 
 -- The section that opened at the step o is older than the writer's entry of this number, as an item's retirement or the first step of a call
 abbrev pub IsOlder : Run → ℕ → ℕ → Type 0
-IsOlder run o number = o < place run 0 number
+IsOlder run o number = o < index_in run 0 number
 
 -- The item was retired by the writer's entry of its number: the load that handed it over, and found its epoch
 abbrev pub IsRetired : List Entry → Retirement → Type 0
 IsRetired entries k = (opens : List ℕ) × (get_elem? entries k.number ≡ some (handing opens (k.retired.item.at ∷ k.retired.item.log ∷ []) (Load 0 k.retired.epoch)))
+
+-- The writer's step e, which is its entry with this number, retires the item: it is the load that hands the item over
+abbrev pub IsRetiredBy : Entry → ℕ → Retirement → Type 0
+IsRetiredBy e number k = (e.item ≡ k.retired.item.at ∷ k.retired.item.log ∷ []) × (e.step ≡ Load 0 k.retired.epoch) × (k.number ≡ number)
+
+-- What the writer's step e, its entry with this number, does with the items that are pending
+pub record ChangesTo (e : Entry) (before : TokenState) (number : ℕ) (after : TokenState) : Type 0 where
+  -- one that was pending still is, or was dispatched
+  pub stays : All (λ (k : Retirement). Contains after.pending k ⊎ Contains after.dispatched k) before.pending
+  -- one that is pending was so before, or this step retires it
+  pub came : All (λ (k : Retirement). Contains before.pending k ⊎ IsRetiredBy e number k) after.pending
+  -- and what the step hands over is pending
+  pub retires : (at log : ℕ) → e.item ≡ at ∷ log ∷ [] → (epoch : ℕ) × Contains after.pending (retirement number at log epoch)
 
 -- The record was passed by the scan that is under way: it was found inactive, or at the epoch of the scan
 abbrev pub IsPassed : Stage → ℕ → Type 0
@@ -91,8 +98,19 @@ module _ {C : Type 0} where
   abbrev pub HasWaited : Origin C → Run → Type 0
   HasWaited origin run = (r o first : ℕ) → r < records_of origin → IsOpen run r o → (writer_in origin run).waited ≡ Some first → ¬ IsOlder run o first
 
--- The law of epochs: every true run of the calls of a domain, whatever its client, is safe, keeps the epochs and has waited
+  -- A pass within a section has one that is open in the run
+  abbrev pub HasOpened : Origin C → Run → Type 0
+  HasOpened origin run = (r : ℕ) → r < records_of origin → 0 < depth_of (stage_in origin run r) → (o : ℕ) × IsOpen run r o
+
+  -- what the writer's next step does with the items that are pending
+  abbrev pub ChangesPending : Origin C → Run → Entry → Type 0
+  ChangesPending origin past e = ChangesTo e (writer_in origin past) (length (account 0 past)) (writer_in origin (past ++ (0, e) ∷ []))
+
+-- The law of epochs: every true run of the calls of a domain, whatever its client, is safe, keeps the epochs and has waited. A pass within a section has
+-- one that is open, and an item stays pending until it is dispatched
 pub record Reclamation (C : Type 0) : Type 0 where
   pub safe : (origin : Origin C) (run : Run) → IsRun (follows_of epochs) origin run → IsSafe origin run
   pub keeps : (origin : Origin C) (run : Run) → IsRun (follows_of epochs) origin run → KeepsEpochs origin run
   pub waits : (origin : Origin C) (run : Run) → IsRun (follows_of epochs) origin run → HasWaited origin run
+  pub opened : (origin : Origin C) (run : Run) → IsRun (follows_of epochs) origin run → HasOpened origin run
+  pub changes : (origin : Origin C) (past rest : Run) (e : Entry) → IsRun (follows_of epochs) origin (past ++ (0, e) ∷ rest) → ChangesPending origin past e

@@ -1,9 +1,9 @@
 -- What holds at every moment of a true run, as each step keeps it: the five parts of the epochs, and what they need beside them.
 use Rattle.std.specs.Prelude.{◌≡◌, ℕ, suc, ◌+◌, ◌*◌, ◌^◌, ◌<◌, ◌≤◌, Option, Some, None, List, length, slice_index, All}
 use Rattle.ck_run.specs.declared.account.Entry.{Entry}
-use Rattle.ck_run.specs.Run.{Run, account}
+use Rattle.ck_run.specs.Run.{Run, account, index_in}
 use Rattle.ck_epoch.specs.State.{base, active_word, epoch_word, Task, polling, first_round, second_round, Stage, outside, entering, holding, inside, free, scanning, comparing, between, Retirement, TokenState}
-use Rattle.ck_epoch.specs.Epochs.{place, IsOpen, IsPassed, IsRetired}
+use Rattle.ck_epoch.specs.Epochs.{IsOpen, IsPassed, IsRetired}
 
 -- a stage of the writer, and one of a pass
 abbrev pub IsOfWriter : Stage → Type 0
@@ -52,7 +52,7 @@ halfway (comparing (second_round all started) e rec busy) = Some started
 halfway g = None
 
 -- What guards an open section of the record r with the epoch g, of the writer w. `older` tells of which entries of the writer it is older
-pub record IsGuarded (global : ℕ) (older : ℕ → Type 0) (r g : ℕ) (w : TokenState) : Type 0 where
+pub record GuardsSection (global : ℕ) (older : ℕ → Type 0) (r g : ℕ) (w : TokenState) : Type 0 where
   -- an item that was retired since it opened has at least its epoch
   pub pending : All (λ (k : Retirement). older k.number → g ≤ k.retired.epoch) w.pending
   -- an item that was dispatched was retired before it opened
@@ -65,17 +65,17 @@ pub record IsGuarded (global : ℕ) (older : ℕ → Type 0) (r g : ℕ) (w : To
 
 -- an open section is one of its pass's stage
 abbrev pub IsOpenAt : ℕ → (ℕ → Type 0) → ℕ → TokenState → Stage → Type 0
-IsOpenAt global older r w (inside d g) = IsGuarded global older r g w
+IsOpenAt global older r w (inside d g) = GuardsSection global older r g w
 IsOpenAt global older r w g = ⊥
 
 -- What holds of the record r, its pass at this stage, and the writer w
-pub record IsRecord (run : Run) (global active own r : ℕ) (w : TokenState) (g : Stage) : Type 0 where
+pub record IsRecordHeld (run : Run) (global active own r : ℕ) (w : TokenState) (g : Stage) : Type 0 where
   pub reading : IsOfPass g
   pub behind : own ≤ global
   pub counted : active ≡ active_of g
   pub timely : IsTimely global own g
   pub current : IsPassed w.stage r → IsCurrent global g
-  pub sections : (o : ℕ) → IsOpen run r o → IsOpenAt global (λ i. o < place run 0 i) r w g
+  pub sections : (o : ℕ) → IsOpen run r o → IsOpenAt global (λ i. o < index_in run 0 i) r w g
 
 -- how often the global epoch may still rise by the call that is under way
 abbrev pub due : Stage → ℕ
@@ -104,7 +104,7 @@ IsScan records global steps (between all started) = started < steps
 IsScan records global steps g = Unit {0}
 
 -- what holds of the writer, of its account
-pub record IsWriter (records global : ℕ) (entries : List Entry) (w : TokenState) : Type 0 where
+pub record IsWriterHeld (records global : ℕ) (entries : List Entry) (w : TokenState) : Type 0 where
   pub writing : IsOfWriter w.stage
   pub steps : w.steps ≡ length entries
   pub epoch : w.epoch ≡ global
@@ -119,7 +119,7 @@ pub record IsWriter (records global : ℕ) (entries : List Entry) (w : TokenStat
 -- A domain at the end of a run
 pub record AreHeld (records : ℕ) (run : Run) (words : List ℕ) (at : ℕ → TokenState) : Type 0 where
   pub wide : base records ≤ length words
-  pub writer : IsWriter records (slice_index words 0) (account 0 run) (at 0)
+  pub writer : IsWriterHeld records (slice_index words 0) (account 0 run) (at 0)
   pub numbered : (r : ℕ) → (at (suc r)).rec ≡ r
   pub unused : (r : ℕ) → records ≤ r → (at (suc r)).stage ≡ outside
-  pub each : (r : ℕ) → r < records → IsRecord run (slice_index words 0) (slice_index words (active_word r)) (slice_index words (epoch_word r)) r (at 0) (at (suc r)).stage
+  pub each : (r : ℕ) → r < records → IsRecordHeld run (slice_index words 0) (slice_index words (active_word r)) (slice_index words (epoch_word r)) r (at 0) (at (suc r)).stage

@@ -61,7 +61,7 @@ module _ {C : Type 0} where
       → (r o : ℕ) → r < records_of (origin t) → IsOpen past r o → ¬ IsOlder past o (length (did t))
 
   -- within a round, before the record `rec` is passed
-  pub record IsScanning (client : Client C) (e rec : ℕ) (t : Token C) : Type 0 where
+  pub record IsInRound (client : Client C) (e rec : ℕ) (t : Token C) : Type 0 where
     pub part : IsInRun client t
     pub first : number t ≡ 0
     pub task : Task

@@ -1,8 +1,8 @@
 //! The tokens of a domain: the writer, and a pass for each record. Contracts see of each its account, which is the list of the steps
 //! that were made with it.
 ghost use Rattle.std.specs.Prelude.{◌≡◌, ◌+◌, ◌<◌, ◌^◌, length};
-ghost use Rattle.ck_run.specs.Tokens.{number};
-ghost use Rattle.ck_epoch.specs.State.{state, depth};
+ghost use Rattle.ck_run.specs.Tokens.{number, origin};
+ghost use Rattle.ck_epoch.specs.State.{state, depth, records_of};
 ghost use Rattle.ck_epoch.specs.Ends.{IsWriting, IsReading};
 
 use crate::about::About;
@@ -108,6 +108,7 @@ impl<C: Client> Pass<C> {
     /// The number of its record, from 0. Contracts also see that the token is a pass's in a true run.
     pub fn rec(&self) -> u64
         ensures rec { result + 1 ≡ number self.now.token }
+        ensures low { result < records_of (origin self.now.token) }
         ensures reading { IsReading C.meaning self.now.token }
     {
         self.rec

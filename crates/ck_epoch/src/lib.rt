@@ -8,23 +8,25 @@ mod backlog;
 mod client;
 #[cfg(test)]
 mod client_tests;
+mod client_words;
 mod domain;
 mod ends;
 mod handler;
 mod item;
-mod law;
+mod laws;
 mod layout;
 mod opening;
 mod pending;
-mod reading;
+mod poll;
 #[cfg(test)]
 mod reading_tests;
+mod retiring;
+mod sections;
+mod synchronize;
 #[cfg(test)]
 mod tests;
-mod waiting;
 #[cfg(test)]
 mod waiting_tests;
-mod writing;
 
 pub use about::About;
 pub use answers::{Closed, Poll};
@@ -32,5 +34,5 @@ pub use client::{Client, Within};
 pub use domain::Domain;
 pub use ends::{Pass, Writer};
 pub use item::{Item, Retired};
-pub use law::holds_after_every_run;
+pub use laws::reclamation_law;
 pub use layout::STRIDE;

@@ -8,7 +8,15 @@ use Rattle.ck_epoch.specs.State.{Origin, base_of}
 use Rattle.ck_epoch.specs.Client.{Client, LogGrows, AnsweredRises}
 use Rattle.ck_signal.specs.declared.signals.Signals.{Signals}
 use Rattle.ck_signal.specs.Signals.{inside, log_of, answers_of}
-use Rattle.ck_signal.specs.Told.{log_in, answers_in}
+use Rattle.ck_signal.specs.Told.{IsRising, log_in, answers_in}
+
+-- a count that doesn't fall as an account gets one entry
+count_rises : (count : List Entry → ℕ) → IsRising count → (es fs : List Entry) → count es ≤ count (es ++ fs)
+count_rises count rises es [] = subst (λ (l : List Entry). count es ≤ count l) (sym (append-nil es)) (le_refl (count es))
+count_rises count rises es (f ∷ fs) = subst (λ (l : List Entry). count es ≤ count l) (append_assoc es (f ∷ []) fs) (le_trans (rises es f) (count_rises count rises (es ++ f ∷ []) fs))
+
+pub run_counts : (count : List Entry → ℕ) → IsRising count → (n : ℕ) (past more : Run) → count (account n past) ≤ count (account n (past ++ more))
+run_counts count rises n past more = subst (λ (l : List Entry). count (account n past) ≤ count l) (sym (account-append n past more)) (count_rises count rises (account n past) (account n more))
 
 module _ {C : Type 0} (client : Client C) (grows : LogGrows client) (rises : AnsweredRises client) where
   -- as an account gets several entries
@@ -19,11 +27,6 @@ module _ {C : Type 0} (client : Client C) (grows : LogGrows client) (rises : Ans
       let r = log_grows first origin (es ++ f ∷ []) fs in
       (g.0 ++ r.0, ap (client.log first origin) (sym (append_assoc es (f ∷ []) fs)) ∙ (r.1 ∙ (ap (λ (l : List client.Update). l ++ r.0) g.1 ∙ append_assoc (client.log first origin es) g.0 r.0)))
 
-  answers_rise : (first : ℕ) (origin : Origin C) (es fs : List Entry) → client.answered first origin es ≤ client.answered first origin (es ++ fs)
-  answers_rise first origin es [] = subst (λ (l : List Entry). client.answered first origin es ≤ client.answered first origin l) (sym (append-nil es)) (le_refl (client.answered first origin es))
-  answers_rise first origin es (f ∷ fs) = subst (λ (l : List Entry). client.answered first origin es ≤ client.answered first origin l) (append_assoc es (f ∷ []) fs)
-      (le_trans (rises first origin es f) (answers_rise first origin (es ++ f ∷ []) fs))
-
   module _ (origin : Origin (Signals C)) (past more : Run) where
     pub run_grows : (us : List client.Update) × (log_in client origin (past ++ more) ≡ log_in client origin past ++ us)
     run_grows =
@@ -31,8 +34,7 @@ module _ {C : Type 0} (client : Client C) (grows : LogGrows client) (rises : Ans
         (g.0, ap (log_of client (base_of origin) origin) (account-append 0 past more) ∙ g.1)
 
     pub run_rises : (r : ℕ) → answers_in client origin past r ≤ answers_in client origin (past ++ more) r
-    run_rises r = subst (λ (l : List Entry). answers_in client origin past r ≤ answers_of client (base_of origin) origin l) (sym (account-append (suc r) past more))
-        (answers_rise (base_of origin) (inside origin) (account (suc r) past) (account (suc r) more))
+    run_rises r = run_counts (answers_of client (base_of origin) origin) (rises (base_of origin) (inside origin)) (suc r) past more
 
     pub longer : length (log_in client origin past) ≤ length (log_in client origin (past ++ more))
     longer = let e = ap length run_grows.1 ∙ length-append (log_in client origin past) run_grows.0 in omega arith

@@ -11,14 +11,13 @@ use Rattle.ck_run.specs.declared.account.Account.{Account}
 use Rattle.ck_run.specs.Run.{Run, words_after, account}
 use Rattle.ck_run.specs.Range.{word_of}
 use Rattle.ck_run.specs.Rule.{unused}
-use Rattle.ck_run.specs.Machine.{moved, IsInvariantAlong}
-use Rattle.ck_run.proofs.Runs.{account_here, account_else}
-use Rattle.ck_run.proofs.Law.{moved_here, moved_else}
+use Rattle.ck_run.specs.Machine.{grow, moved, IsInvariantAlong}
+use Rattle.ck_run.proofs.Accounts.{account_in, accounts_grow}
 use Rattle.ck_epoch.specs.State.{Origin, base_of}
 use Rattle.ck_epoch.specs.Client.{Client, LogGrows, AnsweredRises, IsClientOpening}
 use Rattle.ck_signal.specs.declared.signals.Signals.{Signals}
 use Rattle.ck_signal.specs.Words.{applied_word, answered_word, size_with}
-use Rattle.ck_signal.specs.Signals.{readers, grow, own_size, log_of, answers_of, IsMark, IsReached, IsNote, IsAnswered, IsRead, IsSignal, MaySignal, signals}
+use Rattle.ck_signal.specs.Signals.{readers, own_size, log_of, answers_of, IsMark, IsReached, IsNote, IsAnswered, IsRead, IsSignal, MaySignal, signals}
 use Rattle.ck_signal.specs.Told.{applied, answered, log_in, answers_in, IsTold}
 use Rattle.ck_signal.proofs.Growing.{run_rises, longer}
 
@@ -32,15 +31,6 @@ same_length : (words : List ℕ) (s : Step) → length (words_after words s) ≡
 same_length words (Load at found) = refl
 same_length words (Store at n) = length-set words at n
 same_length words (Exchange at old new found) = length-set words at _
-
--- the account of the token n in a run
-abbrev account_in : Run → ℕ → Account
-account_in run n = record { number = n; entries = account n run }
-
-account_grows : (past : Run) (at : ℕ → Account) (n m : ℕ) (e : Entry) → ((k : ℕ) → at k ≡ account_in past k) → moved at n (grow (at n) e) m ≡ account_in (past ++ (n, e) ∷ []) m
-account_grows past at n m e same = dite (ℕ_discrete n m)
-    (λ (here : n ≡ m). moved_here at n m (grow (at n) e) here ∙ (ap (λ (a : Account). grow a e) (ap at here ∙ same m) ∙ ap (λ (es : List Entry). record { number = m; entries = es }) (sym (account_here past n m e here))))
-    (λ (other : n ≢ m). moved_else at n m (grow (at n) e) other ∙ (same m ∙ ap (λ (es : List Entry). record { number = m; entries = es }) (sym (account_else past n m e other))))
 
 module _ {C : Type 0} (client : Client C) (origin : Origin (Signals C)) where
   -- where the words of the client inside end, and the signal words
@@ -82,7 +72,7 @@ module _ {C : Type 0} (client : Client C) (grows : LogGrows client) (rises : Ans
       → ((r : ℕ) → r < readers origin → get_or after (answered client origin r) 0 ≤ answers_in client origin past r) → Keeps after
   goes after long updates answers = record {
     wide = subst (λ (k : ℕ). high client origin ≤ k) (sym long) h.wide;
-    accounts = λ m. account_grows past at n m e h.accounts;
+    accounts = λ m. accounts_grow past at n m e h.accounts;
     told = record {
       updates = le_trans updates (longer client grows rises origin past ((n, e) ∷ []));
       answers = λ r few. le_trans (answers r few) (run_rises client grows rises origin past ((n, e) ∷ []) r);

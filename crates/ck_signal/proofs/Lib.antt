@@ -1,5 +1,4 @@
 mod Growing
 mod Kept
 mod TrueSignals
-mod Splits
 mod Steps

@@ -8,10 +8,12 @@ use Rattle.ck_run.specs.declared.account.Step.TheVariants.{Load, Store}
 use Rattle.ck_run.specs.Range.{word_of}
 use Rattle.ck_run.specs.Run.{Run, account, entry}
 use Rattle.ck_run.specs.Rule.{unused}
-use Rattle.ck_run.specs.Machine.{state_after}
+use Rattle.ck_run.specs.Machine.{grow}
 use Rattle.ck_run.specs.Tokens.{Table, table, adding, did, number, origin}
 use Rattle.ck_run.proofs.Law.{obeys_append, obeys_parts}
 use Rattle.ck_run.proofs.Moments.{part_follows}
+use Rattle.ck_run.proofs.Runs.{split}
+use Rattle.ck_run.proofs.Accounts.{account_grown}
 use Rattle.ck_epoch.specs.declared.about.About.{About}
 use Rattle.ck_epoch.specs.State.{Origin, Token, base_of, records_of}
 use Rattle.ck_epoch.specs.Client.{Client, Passes, LogGrows, AnsweredRises, program}
@@ -19,16 +21,10 @@ use Rattle.ck_epoch.specs.Ends.{IsInRun, IsReading, IsWriting}
 use Rattle.ck_epoch.specs.Calls.{MayFollow}
 use Rattle.ck_signal.specs.declared.signals.Signals.{Signals}
 use Rattle.ck_signal.specs.Words.{applied_word, answered_word, mark, reached, note, answered as asked, marks, reaches, notes, asks}
-use Rattle.ck_signal.specs.Signals.{inside, readers, grow, own_size, MaySignal, log_of, signals}
-use Rattle.ck_signal.specs.Told.{applied, answered, log_in, answers_in, IsRunOf, IsPlace, AreBelow, TrueSignals, log, answers, HasSeen, HasBeenTold}
+use Rattle.ck_signal.specs.Signals.{inside, readers, own_size, MaySignal, log_of, signals}
+use Rattle.ck_signal.specs.Told.{applied, answered, log_length, answers_in, IsRunOf, IsPlace, AreBelow, TrueSignals, log, answers, HasSeen, HasBeenTold}
 use Rattle.ck_signal.specs.Laws.{goes_on}
-use Rattle.ck_signal.proofs.Splits.{split}
 use Rattle.ck_signal.proofs.TrueSignals.{true_signals}
-
--- an account that got these entries
-grown : (a : Account) (es : List Entry) → state_after grow a es ≡ record a { entries = a.entries ++ es }
-grown a [] = ap (λ (l : List Entry). record a { entries = l }) (sym (append-nil a.entries))
-grown a (e ∷ es) = grown (grow a e) es ∙ ap (λ (l : List Entry). record a { entries = l }) (append_assoc a.entries (e ∷ []) es)
 
 module _ {C : Type 0} (client : Client C) where
   -- a step on a signal word that is one of the calls
@@ -39,7 +35,7 @@ module _ {C : Type 0} (client : Client C) where
       let e : Entry = entry opens s in
       let f = (part_follows (program (signals client)) o t.view.own part).3 in (
         passes (base_of o) (inside o) (number t) (did t) e f.0 (inr high, λ at log is. absurd cc),
-        obeys_append grow (MaySignal client (base_of o) o) (unused (number t)) (did t) (e ∷ []) f.1 (subst (λ (a : Account). MaySignal client (base_of o) o a e) (sym (grown (unused (number t)) (did t))) may, tt),
+        obeys_append grow (MaySignal client (base_of o) o) (unused (number t)) (did t) (e ∷ []) f.1 (subst (λ (a : Account). MaySignal client (base_of o) o a e) (sym (account_grown (unused (number t)) (did t))) may, tt),
       )
 
   -- a step on a word of the client inside
@@ -100,7 +96,7 @@ module _ {C : Type 0} (client : Client C) where
       let o = origin t in
       let f = (part_follows (program (signals client)) o (adding t (e ∷ [])).view.own part).3 in
       let last = (obeys_parts grow (MaySignal client (base_of o) o) (unused (number t)) (did t) (e ∷ []) f.1).1.0 in
-      subst (λ (a : Account). MaySignal client (base_of o) o a e) (grown (unused (number t)) (did t)) last
+      subst (λ (a : Account). MaySignal client (base_of o) o a e) (account_grown (unused (number t)) (did t)) last
 
   -- by whom: a reader loads `applied`, and the writer loads `answered`
   by_reader : (a : Account) (o : Origin (Signals C)) (n found : ℕ) → MaySignal client (base_of o) o a (reaches (applied client o) n found) → 0 < a.number
@@ -128,18 +124,19 @@ module _ {C : Type 0} (client : Client C) where
         let rec : number t ≡ suc (number t - 1) = let other = by_reader t.view.own o n found (made_signal t e part) in omega arith in
         law.reached o past rest (number t - 1) n run (s.past, s.rest, found, (s.parts ∙ ap (λ (k : ℕ). s.past ++ (k, e) ∷ s.rest) rec), enough)
 
-    told_then : (r k : ℕ) → r < readers o → IsInRun (signals client) (adding t (asks (answered client o r) r k ∷ [])) → HasBeenTold client (adding t (asks (answered client o r) r k ∷ [])) r k (length (log client t))
+    told_then : (r k : ℕ) → r < readers o → IsInRun (signals client) (adding t (asks (answered client o r) r k ∷ [])) → HasBeenTold client (adding t (asks (answered client o r) r k ∷ [])) r k (did t)
     told_then r k low part past rest more run mine =
         let e : Entry = asks (answered client o r) r k in
         let s = split (number t) past (did t) e more (mine ∙ append_assoc (did t) (e ∷ []) more) in
         let first : number t ≡ 0 = by_writer t.view.own o r k low (made_signal t e part) in
         let parts : past ≡ s.past ++ (0, e) ∷ s.rest = s.parts ∙ ap (λ (n : ℕ). s.past ++ (n, e) ∷ s.rest) first in
         let whole : past ++ rest ≡ s.past ++ (0, e) ∷ (s.rest ++ rest) = ap (λ (l : Run). l ++ rest) parts ∙ append_assoc s.past ((0, e) ∷ s.rest) rest in
-        let b : AreBelow client o s.past (s.past ++ (0, e) ∷ (s.rest ++ rest)) r k (length (log_in client o s.past)) = law.answered o s.past (s.rest ++ rest) r k low (subst (IsRunOf client o) whole run) in
+        let b : AreBelow client o s.past (s.past ++ (0, e) ∷ (s.rest ++ rest)) r k (account 0 s.past) = law.answered o s.past (s.rest ++ rest) r k low (subst (IsRunOf client o) whole run) in
         let same : account 0 s.past ≡ did t = ap (λ (n : ℕ). account n s.past) (sym first) ∙ s.before in
         record {
           given = le_trans b.given (subst (λ (l : Run). answers_in client o s.past r ≤ answers_in client o l r) (sym parts) (law.rises o s.past ((0, e) ∷ s.rest) r));
-          places = λ i place few p. subst (λ (es : List Entry). place ≤ length (log_of client (base_of o) o es)) same (b.places i place few (subst (λ (l : Run). IsPlace client o l r i place) whole p));
+          places = λ i place few p. subst (λ (es : List Entry). place ≤ log_length client o es) same (b.places i place few (subst (λ (l : Run). IsPlace client (log_length client o) o l r i place) whole p));
+          placed = λ count rising i place few p. subst (λ (es : List Entry). place ≤ count es) same (b.placed count rising i place few (subst (λ (l : Run). IsPlace client count o l r i place) whole p));
         }
 
     pub has_seen : (u : Token (Signals C)) (d : Table (About (Signals C))) (n found : ℕ) → table t ≡ d → IsInRun (signals client) u → n ≤ found → u ≡ adding t (reaches (applied client d.origin) n found ∷ [])
@@ -149,8 +146,8 @@ module _ {C : Type 0} (client : Client C) where
         subst (λ (x : Token (Signals C)). HasSeen client x n) (sym step) (seen_then n found (subst (IsInRun (signals client)) step part) enough)
 
     pub has_been_told : (u : Token (Signals C)) (d : Table (About (Signals C))) (r k : ℕ) → table t ≡ d → r < readers d.origin → IsInRun (signals client) u → u ≡ adding t (asks (answered client d.origin r) r k ∷ [])
-        → HasBeenTold client u r k (length (log client t))
+        → HasBeenTold client u r k (did t)
     has_been_told u d r k same low part made =
         let step = subst (λ (x : Table (About (Signals C))). u ≡ adding t (asks (answered client x.origin r) r k ∷ [])) (sym same) made in
         let few = subst (λ (x : Table (About (Signals C))). r < readers x.origin) (sym same) low in
-        subst (λ (x : Token (Signals C)). HasBeenTold client x r k (length (log client t))) (sym step) (told_then r k few (subst (IsInRun (signals client)) step part))
+        subst (λ (x : Token (Signals C)). HasBeenTold client x r k (did t)) (sym step) (told_then r k few (subst (IsInRun (signals client)) step part))

@@ -1,29 +1,21 @@
 -- The law of signals.
 use Rattle.std.proofs.Common.{◌≡◌, ℕ, suc, ◌<◌, ◌≤◌, ◌⊎◌, ⊎_elim, inl, inr, List, ◌∷◌, ◌++◌, length, take, drop, append_assoc, sym, ap, ◌∙◌, subst, arith}
 use Rattle.std.proofs.Math.Nat.{le_trans}
-use Rattle.std.proofs.Math.Seq.{take-append_seam}
-use Rattle.std.proofs.lemmas.List.{take-append-le, take-append-drop}
 use Rattle.std.proofs.lemmas.Bool.{cases_lt}
 use Rattle.ck_run.specs.declared.account.Entry.{Entry}
-use Rattle.ck_run.specs.Run.{Run, replay}
+use Rattle.ck_run.specs.Run.{Run, replay, account}
 use Rattle.ck_run.specs.Rule.{IsRun}
 use Rattle.ck_run.specs.Machine.{follows_of}
+use Rattle.ck_run.proofs.Lists.{begins}
 use Rattle.ck_run.proofs.Moments.{run_weaker, run_before, holds_along, at_step}
 use Rattle.ck_epoch.specs.State.{Origin}
 use Rattle.ck_epoch.specs.Client.{Client, LogGrows, AnsweredRises, program}
 use Rattle.ck_signal.specs.declared.signals.Signals.{Signals}
 use Rattle.ck_signal.specs.Words.{reaches, asks}
 use Rattle.ck_signal.specs.Signals.{readers, signals, signalling}
-use Rattle.ck_signal.specs.Told.{applied, answered, log_in, answers_in, IsRunOf, IsTold, HasReached, IsPlace, AreBelow, TrueSignals}
-use Rattle.ck_signal.proofs.Growing.{run_grows, run_rises, longer}
+use Rattle.ck_signal.specs.Told.{applied, answered, log_length, log_in, answers_in, IsRunOf, IsTold, HasReached, IsPlace, AreBelow, TrueSignals}
+use Rattle.ck_signal.proofs.Growing.{run_counts, run_grows, run_rises, longer}
 use Rattle.ck_signal.proofs.Kept.{AreKept, starts, keeps}
-
--- of two beginnings of a list the shorter one begins the longer one
-begins : {A : Type 0} (xs xs' ys ys' : List A) → xs ++ xs' ≡ ys ++ ys' → length xs ≤ length ys → (more : List A) × (ys ≡ xs ++ more)
-begins {A = A} xs xs' ys ys' e short =
-    let n : ℕ = length xs in
-    let same : take n ys ≡ xs = sym (take-append-le n ys ys' short) ∙ (ap (take n) (sym e) ∙ take-append_seam xs xs') in
-    (drop n ys, sym (take-append-drop n ys) ∙ ap (λ (l : List A). l ++ drop n ys) same)
 
 cases_le : (n m : ℕ) → (n ≤ m) ⊎ (m ≤ n)
 cases_le n m = ⊎_elim (λ (l : n < m). inl (omega arith)) (λ (l : m ≤ n). inr l) (cases_lt n m)
@@ -49,14 +41,15 @@ module _ {C : Type 0} (client : Client C) (grows : LogGrows client) (rises : Ans
       le_trans h.4 (le_trans so (subst (λ (l : Run). length (log_in client origin before) ≤ length (log_in client origin l)) (sym h.3) (longer client grows rises origin before (x ∷ after))))
 
   -- a moment by which an answer wasn't given yet comes before one by which it was
-  below : (past rest : Run) (r i place : ℕ) → i < answers_in client origin past r → IsPlace client origin (past ++ rest) r i place → place ≤ length (log_in client origin past)
-  below past rest r i place given p =
+  below : (count : List Entry → ℕ) → ((xs more : Run) → count (account 0 xs) ≤ count (account 0 (xs ++ more))) → (past rest : Run) (r i place : ℕ) → i < answers_in client origin past r
+      → IsPlace client count origin (past ++ rest) r i place → place ≤ count (account 0 past)
+  below count up past rest r i place given p =
       let moment : Run = p.0 in
-      subst (λ (k : ℕ). k ≤ length (log_in client origin past)) (sym p.4)
+      subst (λ (k : ℕ). k ≤ count (account 0 past)) (sym p.4)
       (⊎_elim
       (λ (early : length moment ≤ length past).
       let b = begins moment p.1 past rest (sym p.2) early in
-      subst (λ (l : Run). length (log_in client origin moment) ≤ length (log_in client origin l)) (sym b.1) (longer client grows rises origin moment b.0))
+      subst (λ (l : Run). count (account 0 moment) ≤ count (account 0 l)) (sym b.1) (up moment b.0))
       (λ (late : length past ≤ length moment).
       let b = begins past rest moment p.1 p.2 late in
       let few : answers_in client origin past r ≤ i = le_trans (subst (λ (l : Run). answers_in client origin past r ≤ answers_in client origin l r) (sym b.1) (run_rises client grows rises origin past b.0 r)) p.3 in
@@ -64,12 +57,16 @@ module _ {C : Type 0} (client : Client C) (grows : LogGrows client) (rises : Ans
       (cases_le (length moment) (length past)))
 
   answered_then : (past rest : Run) (r k : ℕ) → r < readers origin → IsRunOf client origin (past ++ (0, asks (answered client origin r) r k) ∷ rest)
-      → AreBelow client origin past (past ++ (0, asks (answered client origin r) r k) ∷ rest) r k (length (log_in client origin past))
+      → AreBelow client origin past (past ++ (0, asks (answered client origin r) r k) ∷ rest) r k (account 0 past)
   answered_then past rest r k low run =
       let x : ℕ × Entry = (0, asks (answered client origin r) r k) in
       let loaded = (at_step (signalling client) origin past rest 0 x.1 (as_signals _ run)).1 in
       let given : k ≤ answers_in client origin past r = subst (λ (n : ℕ). n ≤ answers_in client origin past r) (sym loaded) ((told past (x ∷ rest) run).answers r low) in
-      record { given = given; places = λ i place few p. below past (x ∷ rest) r i place (le_trans few given) p }
+      record {
+        given = given;
+        places = λ i place few p. below (log_length client origin) (longer client grows rises origin) past (x ∷ rest) r i place (le_trans few given) p;
+        placed = λ count rising i place few p. below count (run_counts count rising 0) past (x ∷ rest) r i place (le_trans few given) p;
+      }
 
 pub true_signals : {C : Type 0} (client : Client C) → LogGrows client → AnsweredRises client → TrueSignals client
 true_signals client grows rises = record {

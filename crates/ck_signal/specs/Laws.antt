@@ -4,13 +4,14 @@ use Rattle.std.proofs.Common.{ℕ, ◌+◌, ◌<◌, ◌≤◌, ⊎_elim, inl, i
 use Rattle.std.proofs.lemmas.Bool.{lt-ltb}
 use Rattle.ck_run.specs.declared.account.Entry.{Entry}
 use Rattle.ck_run.specs.Rule.{unused}
+use Rattle.ck_run.specs.Machine.{grow}
 use Rattle.ck_run.specs.Range.{word_of}
 use Rattle.ck_run.proofs.Law.{obeys_append}
 use Rattle.ck_epoch.specs.State.{Origin, base_of}
 use Rattle.ck_epoch.specs.Client.{Client, Starts, Passes, LogGrows, AnsweredRises}
 use Rattle.ck_epoch.specs.Within.{IsWithin}
 use Rattle.ck_signal.specs.declared.signals.Signals.{Signals}
-use Rattle.ck_signal.specs.Signals.{inside, grow, own_size, IsSignal, MaySignal, signals}
+use Rattle.ck_signal.specs.Signals.{inside, own_size, IsSignal, MaySignal, signals}
 
 longer : (place size own records at : ℕ) → at < size → place + size ≤ own → place + at < own
 longer place size own records at low fits = omega arith

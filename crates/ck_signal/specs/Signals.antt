@@ -4,7 +4,7 @@ use Rattle.ck_run.specs.declared.account.Entry.{Entry}
 use Rattle.ck_run.specs.declared.account.Account.{Account}
 use Rattle.ck_run.specs.Range.{IsInside}
 use Rattle.ck_run.specs.Rule.{unused}
-use Rattle.ck_run.specs.Machine.{Machine, Obeys}
+use Rattle.ck_run.specs.Machine.{Machine, Obeys, grow}
 use Rattle.ck_epoch.specs.declared.about.About.{About}
 use Rattle.ck_epoch.specs.State.{Origin, base_of}
 use Rattle.ck_epoch.specs.Client.{Client, IsClientOpening}
@@ -24,10 +24,6 @@ module _ {C : Type 0} where
   -- a pass may read by itself
   abbrev pub IsRead : Origin (Signals C) → Account → Entry → Type 0
   IsRead origin a e = (at : ℕ) × (found : ℕ) × (0 < a.number) × (e ≡ reads (base_of origin) at found)
-
--- an account with one entry more
-abbrev pub grow : Account → Entry → Account
-grow a e = record a { entries = a.entries ++ e ∷ [] }
 
 module _ {C : Type 0} (client : Client C) where
   -- how many words the client inside has

@@ -1,6 +1,6 @@
 -- What the signal words tell: of every true run of a domain whose client has signals, and of each moment of it. A moment is the part of
 -- the run that is past.
-use Rattle.std.specs.Prelude.{◌≡◌, ℕ, suc, ◌<◌, ◌≤◌, List, ◌∷◌, ◌++◌, length, slice_index}
+use Rattle.std.specs.Prelude.{◌≡◌, ℕ, suc, ◌<◌, ◌≤◌, List, [], ◌∷◌, ◌++◌, length, slice_index}
 use Rattle.ck_run.specs.declared.account.Entry.{Entry}
 use Rattle.ck_run.specs.Run.{Run, replay, account}
 use Rattle.ck_run.specs.Rule.{IsRun}
@@ -10,6 +10,10 @@ use Rattle.ck_epoch.specs.Client.{Client, program}
 use Rattle.ck_signal.specs.declared.signals.Signals.{Signals}
 use Rattle.ck_signal.specs.Words.{reaches, asks}
 use Rattle.ck_signal.specs.Signals.{readers, applied_at, answered_at, log_of, answers_of, signals}
+
+-- A count of what the writer did that doesn't fall as its account grows, as the length of its log, or how many of its updates have taken place
+abbrev pub IsRising : (List Entry → ℕ) → Type 0
+IsRising count = (es : List Entry) (e : Entry) → count es ≤ count (es ++ e ∷ [])
 
 module _ {C : Type 0} (client : Client C) where
   -- the word `applied`, and that of the reader r
@@ -39,15 +43,21 @@ module _ {C : Type 0} (client : Client C) where
   abbrev pub HasReached : Origin (Signals C) → Run → ℕ → ℕ → Type 0
   HasReached origin run r n = (past : Run) × (rest : Run) × (found : ℕ) × (run ≡ past ++ (suc r, reaches (applied origin) n found) ∷ rest) × (n ≤ found)
 
-  -- A place that the answer of the reader r with the number i, from 0, may have in this run: the length of the log at a moment by which
-  -- the answer wasn't given yet
-  abbrev pub IsPlace : Origin (Signals C) → Run → ℕ → ℕ → ℕ → Type 0
-  IsPlace origin run r i place = (past : Run) × (rest : Run) × (run ≡ past ++ rest) × (answers_in origin past r ≤ i) × (place ≡ length (log_in origin past))
+  -- how long the log is that these entries of the writer's give
+  abbrev pub log_length : Origin (Signals C) → List Entry → ℕ
+  log_length origin es = length (log_of client (base_of origin) origin es)
 
-  -- By the moment `past` of the run the reader r had given its first k answers, and they have places not above m
-  pub record AreBelow (origin : Origin (Signals C)) (past run : Run) (r k m : ℕ) : Type 0 where
+  -- A place that the answer of the reader r with the number i, from 0, may have in this run by this count: the count at a moment by which
+  -- the answer wasn't given yet
+  abbrev pub IsPlace : (List Entry → ℕ) → Origin (Signals C) → Run → ℕ → ℕ → ℕ → Type 0
+  IsPlace count origin run r i place = (past : Run) × (rest : Run) × (run ≡ past ++ rest) × (answers_in origin past r ≤ i) × (place ≡ count (account 0 past))
+
+  -- By the moment `past` of the run the reader r had given its first k answers, and they have places not above what the writer had done by
+  -- these entries: not above the length of the log that they give, and by any count that doesn't fall, not above theirs
+  pub record AreBelow (origin : Origin (Signals C)) (past run : Run) (r k : ℕ) (es : List Entry) : Type 0 where
     pub given : k ≤ answers_in origin past r
-    pub places : (i place : ℕ) → i < k → IsPlace origin run r i place → place ≤ m
+    pub places : (i place : ℕ) → i < k → IsPlace (log_length origin) origin run r i place → place ≤ log_length origin es
+    pub placed : (count : List Entry → ℕ) → IsRising count → (i place : ℕ) → i < k → IsPlace count origin run r i place → place ≤ count es
 
   -- The law of signals: they tell what is true
   pub record TrueSignals : Type 0 where
@@ -58,9 +68,9 @@ module _ {C : Type 0} (client : Client C) where
     pub told : (origin : Origin (Signals C)) (past rest : Run) → IsRunOf origin (past ++ rest) → IsTold origin past (replay origin.words past)
     -- from the moment on at which `reached` told of n updates, the log has them
     pub reached : (origin : Origin (Signals C)) (past rest : Run) (r n : ℕ) → IsRunOf origin (past ++ rest) → HasReached origin past r n → n ≤ length (log_in origin past)
-    -- where `answered` loads k, the first k answers of that reader have places not above the length of the log by then
+    -- where `answered` loads k, the first k answers of that reader have places not above what the writer has done by then
     pub answered : (origin : Origin (Signals C)) (past rest : Run) (r k : ℕ) → r < readers origin → let run = past ++ (0, asks (answered origin r) r k) ∷ rest in
-        IsRunOf origin run → AreBelow origin past run r k (length (log_in origin past))
+        IsRunOf origin run → AreBelow origin past run r k (account 0 past)
 
   -- the log that the writer's account gives, and how many answers a pass's account gives
   abbrev pub log : Token (Signals C) → List client.Update
@@ -77,6 +87,6 @@ module _ {C : Type 0} (client : Client C) where
   abbrev pub HasSeen : Token (Signals C) → ℕ → Type 0
   HasSeen t n = SinceStep t (λ past run. n ≤ length (log_in (origin t) past))
 
-  -- by then the reader r has given its first k answers, and they have places not above m
-  abbrev pub HasBeenTold : Token (Signals C) → ℕ → ℕ → ℕ → Type 0
-  HasBeenTold t r k m = SinceStep t (λ past run. AreBelow (origin t) past run r k m)
+  -- by then the reader r has given its first k answers, and they have places not above what these entries of the writer's did
+  abbrev pub HasBeenTold : Token (Signals C) → ℕ → ℕ → List Entry → Type 0
+  HasBeenTold t r k es = SinceStep t (λ past run. AreBelow (origin t) past run r k es)

@@ -1,6 +1,6 @@
 //! The calls of signals. Each is one step, and none needs a section.
 ghost use Rattle.std.specs.Prelude.{◌≡◌, ℕ, ◌+◌, ◌<◌, ◌≤◌, ◌^◌, [], ◌∷◌, length, MatchResult, IfOk};
-ghost use Rattle.ck_run.specs.Tokens.{table, adding};
+ghost use Rattle.ck_run.specs.Tokens.{table, adding, did};
 ghost use Rattle.ck_epoch.specs.State.{depth, records_of, state};
 ghost use Rattle.ck_epoch.specs.Ends.{IsInRun};
 ghost use Rattle.ck_epoch.specs.Calls.{rec_of};
@@ -91,7 +91,8 @@ fn load_answered<C: Client, F, O: Opens>(
 }
 
 /// How many answers the reader of this record has noted. These first answers were given before, in every true run, and have places not
-/// above the length of the log.
+/// above the length of the log; nor above how many updates have taken place by then, or any other count of the writer's steps that
+/// doesn't fall.
 pub fn answered<C: Client, F>(
     domain: &Domain<Signals<C>>,
     writer: &mut Writer<Signals<C>, F>,
@@ -100,7 +101,7 @@ pub fn answered<C: Client, F>(
     requires table { table writer.old.token ≡ domain.now }
     requires reader { reader < readers domain.now.origin }
     ensures step { writer.new ≡ record writer.old { token = adding writer.old.token (asks (answered_at C.meaning domain.now.origin reader) reader result ∷ []) } }
-    ensures places { HasBeenTold C.meaning writer.new.token reader result (length (log C.meaning writer.old.token)) }
+    ensures places { HasBeenTold C.meaning writer.new.token reader result (did writer.old.token) }
     ensures same { ((state writer.new.token).pending ≡ (state writer.old.token).pending) × ((state writer.new.token).dispatched ≡ (state writer.old.token).dispatched) × ((state writer.new.token).epoch ≡ (state writer.old.token).epoch) }
     ensures part { IsInRun (signals C.meaning) writer.new.token }
 {

@@ -3,11 +3,11 @@
 #![tactic(auto)]
 
 mod calls;
-mod law;
+mod laws;
 mod signals;
 #[cfg(test)]
 mod tests;
 
 pub use calls::{answered, mark, note, reached};
-pub use law::holds_after_every_run;
+pub use laws::signals_law;
 pub use signals::Signals;

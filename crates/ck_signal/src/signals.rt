@@ -10,6 +10,7 @@ use ck_epoch::{Client, STRIDE, Within};
 pub struct Signals<C> {
     pub client: C,
     pub records: u64,
+    ghost few: { (1 ≤ records) × (records ≤ 64) },
 }
 
 impl<C: Client> Signals<C> {
@@ -17,7 +18,7 @@ impl<C: Client> Signals<C> {
     pub fn new(client: C, records: u64) -> Signals<C>
         requires records { (1 ≤ records) × (records ≤ 64) }
         requires words { C.meaning.size client ≤ 2 ^ 32 }
-        ensures { result ≡ record { client = client; records = records } }
+        ensures { (result.client ≡ client) × (result.records ≡ records) }
     {
         Signals { client, records }
     }

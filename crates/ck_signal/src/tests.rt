@@ -5,7 +5,7 @@ ghost use Rattle.ck_epoch.specs.State.{records_of};
 ghost use Rattle.ck_signal.specs.Signals.{readers};
 
 use crate::{Signals, answered, mark, note, reached};
-use ck_epoch::{Client, Domain, Item, Pass, Writer};
+use ck_epoch::{Client, Domain, Item, Pass, Within, Writer};
 use ck_words::Back;
 use std::marker::Brand;
 use std::test::Fail;
@@ -48,6 +48,24 @@ impl Client for Counter {
     fn first(&self, _at: u64) -> u64 {
         0
     }
+}
+
+impl Within<Counter> for Counter {
+    ghost use Rattle.ck_epoch.specs.Itself.{itself};
+
+    ghost place = { λ c. 0 };
+
+    ghost part = { λ c. c };
+
+    fn base(&self) -> u64 {
+        0
+    }
+
+    fn inner(&self) -> &Counter {
+        self
+    }
+
+    ghost within = { itself Self.meaning };
 }
 
 // Makes an update, and marks it.
@@ -119,5 +137,19 @@ fn tells_across_threads(rt: HostRuntime) -> Result<(), Fail> {
     assert_eq!(rt; reached(&domain, &mut pass, 1), Ok(()));
     assert_eq!(rt; reached(&domain, &mut pass, 2), Err(1));
     assert_eq!(rt; answered(&domain, &mut writer, 0), 1);
+    Ok(())
+}
+
+#[test]
+fn the_client_stands_before_its_signals(rt: HostRuntime) -> Result<(), Fail> {
+    let signals = Signals::new(Counter, 2);
+    assert_eq!(rt;
+        (
+            Within::<Counter>::base(&signals),
+            Within::<Counter>::inner(&signals).words()
+        ),
+        (0, 1)
+    );
+    assert_eq!(rt; signals.words(), 65);
     Ok(())
 }

@@ -1,4 +1,4 @@
-use Rattle.std.proofs.Common.{rules, ◌≡◌, ◌+◌, ◌<◌, length, ◌∙◌, arith}
+use Rattle.std.proofs.Common.{rules, ◌<◌, length, ◌∙◌, arith}
 use Rattle.ck_epoch.specs.State.{queue, state}
 use Rattle.ck_epoch.proofs.Emptying.{rest_is, next_may, next_waits}
 use Rattle.ck_epoch.proofs.backlog.dispatch.Goals as goal

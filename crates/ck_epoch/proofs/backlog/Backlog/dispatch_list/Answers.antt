@@ -1,4 +1,4 @@
-use Rattle.std.proofs.Common.{◌≡◌, ◌+◌, ◌≤◌, ◌<◌, ◌^◌, length, slice_set, ap, subst, arith}
+use Rattle.std.proofs.Common.{length, slice_set, ap, subst, arith}
 use Rattle.std.specs.VecDeque.{deque_len, deque_capacity}
 use Rattle.ck_epoch.specs.Lists.{Backlog, PendingList, in_a_row, lists_view}
 use Rattle.ck_epoch.proofs.Emptying.{IsEmptied, emptied_length, is_emptied, items_at, room_after}

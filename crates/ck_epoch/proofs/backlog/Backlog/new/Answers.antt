@@ -1,6 +1,6 @@
-use Rattle.std.proofs.Common.{◌≡◌, ℕ, ◌+◌, ◌≤◌, ◌<◌, [], length, sym, ap, ◌∙◌, arith}
+use Rattle.std.proofs.Common.{◌≡◌, ℕ, [], length, sym, ap, ◌∙◌, arith}
 use Rattle.std.proofs.lemmas.List.Elements.{All-weaker}
-use Rattle.std.specs.VecDeque.{deque_len, deque_capacity}
+use Rattle.std.specs.VecDeque.{deque_capacity}
 use Rattle.ck_epoch.specs.Lists.{PendingList, lists_view, in_a_row}
 use Rattle.ck_epoch.proofs.Emptying.{all_empty, none_in_a_row}
 use Rattle.ck_epoch.proofs.backlog.Backlog.new.Goals as goal

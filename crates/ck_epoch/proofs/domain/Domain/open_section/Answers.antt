@@ -1,4 +1,4 @@
-use Rattle.ck_epoch.proofs.Sections.{may_enter, may_hold, may_open}
+use Rattle.ck_epoch.proofs.SectionSteps.{may_enter, may_hold, may_open}
 use Rattle.ck_epoch.proofs.domain.Domain.open_section.Goals as goal
 
 pub store-requires-clause-may : goal.store-requires-clause-may

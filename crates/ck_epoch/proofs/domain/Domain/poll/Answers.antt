@@ -1,8 +1,7 @@
-use Rattle.std.proofs.Common.{◌≡◌, ℕ, ◌+◌, ◌-◌, ◌%◌, ◌<◌, List, ◌++◌, length, ◌∙◌, sym, ap, subst, arith}
+use Rattle.std.proofs.Common.{ℕ, ◌-◌, ◌%◌, List, ◌++◌, ◌∙◌, sym, ap, arith}
 use Rattle.ck_run.specs.Tokens.{table, origin}
-use Rattle.ck_epoch.specs.declared.item.Retired.{Retired}
 use Rattle.ck_epoch.specs.State.{Token, Retirement, queue, off_list, state}
-use Rattle.ck_epoch.specs.Lists.{on, off, homes}
+use Rattle.ck_epoch.specs.Lists.{on, off}
 use Rattle.ck_epoch.specs.declared.answers.Poll.TheVariants.{Clear, Moved, Blocked}
 use Rattle.ck_epoch.specs.Calls.{gone}
 use Rattle.ck_epoch.specs.Ends.{Writer}

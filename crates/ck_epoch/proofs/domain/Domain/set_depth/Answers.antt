@@ -1,4 +1,4 @@
-use Rattle.ck_epoch.proofs.Sections.{may_set}
+use Rattle.ck_epoch.proofs.SectionSteps.{may_set}
 use Rattle.ck_epoch.proofs.domain.Domain.set_depth.Goals as goal
 
 pub store-requires-clause-may : goal.store-requires-clause-may

@@ -1,22 +1,22 @@
-//! What a reader does with its pass.
-ghost use Rattle.std.specs.Prelude.{◌≡◌, ℕ, ◌+◌, ◌-◌, ◌<◌, ◌^◌, ◌⊎◌, true, [], ◌∷◌};
+//! The sections of a reader.
+ghost use Rattle.std.specs.Prelude.{◌≡◌, ℕ, ◌+◌, ◌-◌, ◌<◌, ◌^◌, ◌⊎◌, [], ◌∷◌};
 ghost use Rattle.ck_run.specs.declared.account.Step.TheVariants.{Load, Store};
 ghost use Rattle.ck_run.specs.Run.{entry, call};
 ghost use Rattle.ck_run.specs.Tokens.{table, number, adding};
 ghost use Rattle.ck_epoch.specs.State.{state, depth, base_of, active_word as active, epoch_word as own, begin as begins, end as ends};
-ghost use Rattle.ck_epoch.specs.Ends.{IsInRun, IsReading, IsPass};
-ghost use Rattle.ck_epoch.specs.Calls.{rec_of, Begins, MayFollow};
+ghost use Rattle.ck_epoch.specs.Ends.{IsInRun, IsPass};
+ghost use Rattle.ck_epoch.specs.Calls.{rec_of, Begins, StepsBelow};
 
 use crate::about::About;
 use crate::client::Client;
 use crate::domain::Domain;
 use crate::ends::Pass;
-use crate::layout::{GLOBAL, active_word, base_word, epoch_word};
+use crate::layout::{GLOBAL, active_word, epoch_word};
 use ck_run::{Continues, Opens, Token};
 use std::marker::Brand;
 
 impl<C: Client> Domain<C> {
-    // Opens a section.
+    // Opens a section of a pass that has none open.
     fn open_section(&self, token: &mut Token<About<C>>, rec: u64)
         requires table { table token.old ≡ self.now }
         requires outside { IsPass C.meaning token.old rec 0 }
@@ -25,8 +25,12 @@ impl<C: Client> Domain<C> {
         ensures inside { IsPass C.meaning token.new rec 1 }
         ensures calls { (state token.new).calls ≡ (state token.old).calls + 1 }
     {
+        // The writer must see the record active before this reader loads the epoch. Were the load first, a whole poll could come between,
+        // find the record inactive, and dispatch what this section is about to reach. In C this is the fence after the store.
         self.words.store::<Brand>(token, active_word(rec), 1);
         let epoch = self.words.load::<Continues>(token, GLOBAL);
+        // The section opens at this store. A scan that came before it found the record active with the epoch of an earlier section: where
+        // that isn't the global one the writer waits, which is safe.
         self.words.store::<Continues>(token, epoch_word(rec), epoch);
     }
 
@@ -51,6 +55,7 @@ impl<C: Client> Domain<C> {
         requires depth { depth pass.old.token < 2 ^ 32 }
         ensures same { (table pass.new.token ≡ table pass.old.token) × (number pass.new.token ≡ number pass.old.token) × (pass.new.tally ≡ pass.old.tally) }
         ensures steps { Begins pass.old.token pass.new.token }
+        ensures below { StepsBelow (base_of self.now.origin) pass.old.token pass.new.token }
         ensures depth { depth pass.new.token ≡ depth pass.old.token + 1 }
         ensures calls { pass.new.calls ≡ pass.old.calls + 1 }
         ensures part { IsInRun C.meaning pass.new.token }
@@ -59,6 +64,8 @@ impl<C: Client> Domain<C> {
         if depth == 0 {
             self.open_section(&mut pass.token, rec);
         } else {
+            // A nested section keeps the epoch of the outermost one: what the outer one may reach was retired at that epoch or later. To
+            // store a newer epoch would let the writer dispatch it.
             self.set_depth::<Brand>(&mut pass.token, rec, depth, depth + 1);
         }
         pass.depth = depth + 1;
@@ -74,39 +81,14 @@ impl<C: Client> Domain<C> {
           token = adding pass.old.token (call ends [] (Store (active (rec_of pass.old.token)) (depth pass.old.token - 1) ∷ []));
           calls = pass.old.calls + 1;
         } }
+        ensures below { StepsBelow (base_of self.now.origin) pass.old.token pass.new.token }
         ensures depth { depth pass.new.token ≡ depth pass.old.token - 1 }
         ensures part { IsInRun C.meaning pass.new.token }
     {
         let (rec, depth) = (pass.rec, pass.depth);
+        // Only the end of the outermost section stores 0. The writer passes the record over from then on, whatever its epoch word.
         self.set_depth::<Brand>(&mut pass.token, rec, depth, depth - 1);
         pass.depth = depth - 1;
         pass.calls += 1;
-    }
-
-    /// Loads a word of the client's. `O` has the name and the arguments of the call that this step opens, if it opens one.
-    pub fn read<O: Opens>(&self, pass: &mut Pass<C>, at: u64) -> u64
-        requires table { table pass.old.token ≡ self.now }
-        requires word { at < C.meaning.size self.now.origin.config.client }
-        requires section { C.meaning.guarded self.now.origin.config.client at ≡ true → 0 < depth pass.old.token }
-        requires client { IsReading C.meaning pass.old.token → (n : ℕ) → n < 2 ^ 64 → MayFollow C.meaning pass.old.token (entry O.opens (Load (base_of self.now.origin + at) n)) }
-        ensures step { pass.new ≡ record pass.old { token = adding pass.old.token (entry O.opens (Load (base_of self.now.origin + at) result) ∷ []) } }
-        ensures depth { depth pass.new.token ≡ depth pass.old.token }
-        ensures part { IsInRun C.meaning pass.new.token }
-    {
-        let word = base_word(self.about.records) + at as usize;
-        self.words.load::<O>(&mut pass.token, word)
-    }
-
-    /// Stores a number in a word of the client's.
-    pub fn tell<O: Opens>(&self, pass: &mut Pass<C>, at: u64, value: u64)
-        requires table { table pass.old.token ≡ self.now }
-        requires word { at < C.meaning.size self.now.origin.config.client }
-        requires client { IsReading C.meaning pass.old.token → MayFollow C.meaning pass.old.token (entry O.opens (Store (base_of self.now.origin + at) value)) }
-        ensures step { pass.new ≡ record pass.old { token = adding pass.old.token (entry O.opens (Store (base_of self.now.origin + at) value) ∷ []) } }
-        ensures depth { depth pass.new.token ≡ depth pass.old.token }
-        ensures part { IsInRun C.meaning pass.new.token }
-    {
-        let word = base_word(self.about.records) + at as usize;
-        self.words.store::<O>(&mut pass.token, word, value);
     }
 }

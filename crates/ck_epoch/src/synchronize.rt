@@ -1,4 +1,4 @@
-//! How the writer waits for the sections of readers.
+//! `synchronize` and `barrier`: the writer waits for the sections of readers.
 ghost use Rattle.std.specs.Prelude.{◌≡◌, ℕ, ◌+◌, ◌<◌, ◌^◌, Bool, List, [], ◌∷◌, ◌++◌, map, length};
 ghost use Rattle.ck_run.specs.declared.account.Step.{Step as StepOf};
 ghost use Rattle.ck_run.specs.declared.account.Step.TheVariants.{Load};
@@ -8,7 +8,7 @@ ghost use Rattle.ck_epoch.specs.State.{Task, scanning, after_raise, state, queue
 ghost use Rattle.ck_epoch.specs.Lists.{by_list, homes, Answers};
 ghost use Rattle.ck_epoch.specs.Ends.{IsInRun};
 ghost use Rattle.ck_epoch.specs.Calls.{Looked};
-ghost use Rattle.ck_epoch.specs.Rounds.{wait_steps, IsWait, IsRound, IsWaiting, IsScanning, ScansOn, IsFree, name_of, after_rounds, Rounds, HaveEnded};
+ghost use Rattle.ck_epoch.specs.Rounds.{wait_steps, IsWait, IsRound, IsWaiting, IsInRound, ScansOn, IsFree, name_of, after_rounds, Rounds, HaveEnded};
 
 use crate::about::About;
 use crate::client::Client;
@@ -23,14 +23,14 @@ use std::marker::Brand;
 use std::sync::Wait;
 
 impl<C: Client> Domain<C> {
-    // Looks at a record again and again, until it is inactive or has this epoch.
+    // Polls one record until it is inactive or has reached `epoch`.
     fn wait_for<R: Wait>(&self, rt: &R, token: &mut Token<About<C>>, epoch: u64, rec: u64)
         requires table { table token.old ≡ self.now }
-        requires scans { IsScanning C.meaning epoch rec token.old }
+        requires scans { IsInRound C.meaning epoch rec token.old }
         requires rec { rec < records_of self.now.origin }
         ensures table { table token.new ≡ table token.old }
         ensures steps { (looks : List Looked) × IsWait epoch looks × (token.new ≡ adding token.old (map further (wait_steps rec looks))) }
-        ensures scans { IsScanning C.meaning epoch (rec + 1) token.new × ScansOn epoch rec (rec + 1) token.old token.new }
+        ensures scans { IsInRound C.meaning epoch (rec + 1) token.new × ScansOn epoch rec (rec + 1) token.old token.new }
     {
         let backoff = Backoff::new();
         for _ in rt.forever() {
@@ -49,7 +49,7 @@ impl<C: Client> Domain<C> {
     // Waits for each record in order, and raises the global epoch.
     fn round<R: Wait>(&self, rt: &R, token: &mut Token<About<C>>, epoch: u64)
         requires table { table token.old ≡ self.now }
-        requires scans { IsScanning C.meaning epoch 0 token.old }
+        requires scans { IsInRound C.meaning epoch 0 token.old }
         ensures table { table token.new ≡ table token.old }
         ensures steps { (steps : List StepOf) × IsRound (records_of self.now.origin) epoch (Load 0 epoch ∷ steps) × (token.new ≡ adding token.old (map further steps)) }
         ensures state { (task : Task) → IsWaiting task → (busy : _) → (state token.old).stage ≡ scanning task epoch 0 busy → state token.new ≡ record (after_raise (state token.old) task epoch) { steps = (state token.new).steps } }
@@ -72,6 +72,8 @@ impl<C: Client> Domain<C> {
         ensures state { (all : Bool) → O.opens ≡ name_of all ∷ [] → state token.new ≡ after_rounds all (state token.old) (state token.new).steps }
         ensures part { IsInRun C.meaning token.new }
     {
+        // One round isn't enough: a reader may have loaded the epoch before the first round raised it, and store it after its record was
+        // passed, so a section that was open at the call may lag by one. The second round waits for that one.
         let first = self.words.load::<O>(token, GLOBAL);
         self.round(rt, token, first);
         let second = self.words.load::<Continues>(token, GLOBAL);

@@ -1,16 +1,12 @@
-//! What the writer does.
-ghost use Rattle.std.specs.Prelude.{◌≡◌, ℕ, ◌+◌, ◌<◌, ◌≤◌, ◌⊎◌, ◌^◌, true, [], ◌∷◌, ◌++◌, length, None, MatchResult};
-ghost use Rattle.std.specs.Option.{MatchOption};
-ghost use Rattle.ck_run.specs.declared.account.Step.TheVariants.{Load, Store};
-ghost use Rattle.ck_run.specs.Run.{entry, handing};
-ghost use Rattle.ck_run.specs.Tokens.{table, number, adding, MayMake, Makes};
+//! `poll`: one look at each record, and what may be dispatched by what it finds.
+ghost use Rattle.std.specs.Prelude.{◌≡◌, ◌+◌, ◌<◌, ◌≤◌, ◌^◌, ◌++◌, length, None, MatchResult};
+ghost use Rattle.ck_run.specs.Tokens.{table, number};
 ghost use Rattle.ck_epoch.specs.declared.answers.Scan.TheVariants.{Behind};
-ghost use Rattle.ck_epoch.specs.State.{Token as TokenOf, state, free, queue, base_of, records_of, retire};
+ghost use Rattle.ck_epoch.specs.State.{Token as TokenOf, state, free, queue, records_of};
 ghost use Rattle.ck_epoch.specs.Lists.{homes, Answers};
-ghost use Rattle.ck_epoch.specs.Client.{program};
 ghost use Rattle.ck_epoch.specs.Ends.{IsInRun, IsWriting};
 ghost use Rattle.ck_epoch.specs.Scan.{IsScanning, Did};
-ghost use Rattle.ck_epoch.specs.Calls.{MayFollow, Polls, gone, kept, count_of, epoch_after};
+ghost use Rattle.ck_epoch.specs.Calls.{Polls, gone, kept, count_of, epoch_after};
 
 use crate::about::About;
 use crate::answers::{Poll, Scan};
@@ -18,78 +14,12 @@ use crate::client::Client;
 use crate::domain::Domain;
 use crate::ends::Writer;
 use crate::item::Item;
-use crate::layout::{GLOBAL, active_word, base_word, epoch_word};
-use ck_run::{Continues, Hands, Opens, Token};
+use crate::layout::{GLOBAL, active_word, epoch_word};
+use ck_run::{Continues, Token};
 use ck_words::Back;
 use std::marker::Brand;
 
 impl<C: Client> Domain<C> {
-    /// Loads a word of the client's. `O` has the name and the arguments of the call that this step opens, if it opens one.
-    pub fn ask<O: Opens, F>(&self, writer: &mut Writer<C, F>, at: u64) -> u64
-        requires table { table writer.old.token ≡ self.now }
-        requires word { at < C.meaning.size self.now.origin.config.client }
-        requires client { IsWriting C.meaning writer.old.token → (n : ℕ) → n < 2 ^ 64 → MayFollow C.meaning writer.old.token (entry O.opens (Load (base_of self.now.origin + at) n)) }
-        ensures step { writer.new ≡ record writer.old { token = adding writer.old.token (entry O.opens (Load (base_of self.now.origin + at) result) ∷ []) } }
-        ensures same { ((state writer.new.token).pending ≡ (state writer.old.token).pending) × ((state writer.new.token).dispatched ≡ (state writer.old.token).dispatched) × ((state writer.new.token).epoch ≡ (state writer.old.token).epoch) }
-        ensures part { IsInRun C.meaning writer.new.token }
-    {
-        let word = base_word(self.about.records) + at as usize;
-        self.words.load::<O>(&mut writer.token, word)
-    }
-
-    /// Stores a number in a word of the client's.
-    pub fn write<O: Opens, F>(&self, writer: &mut Writer<C, F>, at: u64, value: u64)
-        requires table { table writer.old.token ≡ self.now }
-        requires word { at < C.meaning.size self.now.origin.config.client }
-        requires client { IsWriting C.meaning writer.old.token → MayFollow C.meaning writer.old.token (entry O.opens (Store (base_of self.now.origin + at) value)) }
-        ensures step { writer.new ≡ record writer.old { token = adding writer.old.token (entry O.opens (Store (base_of self.now.origin + at) value) ∷ []) } }
-        ensures same { ((state writer.new.token).pending ≡ (state writer.old.token).pending) × ((state writer.new.token).dispatched ≡ (state writer.old.token).dispatched) × ((state writer.new.token).epoch ≡ (state writer.old.token).epoch) }
-        ensures part { IsInRun C.meaning writer.new.token }
-    {
-        let word = base_word(self.about.records) + at as usize;
-        self.words.store::<O>(&mut writer.token, word, value);
-    }
-
-    // The load by which an item is retired.
-    fn retire<O: Opens, H: Hands>(&self, token: &mut Token<About<C>>, item: Item) -> u64
-        requires table { table token.old ≡ self.now }
-        requires may { (n : ℕ) → n < 2 ^ 64 → MayMake (program C.meaning) token.old (handing O.opens H.item (Load 0 n)) }
-        ensures table { table token.new ≡ table token.old }
-        ensures step { Makes (program C.meaning) token.old (handing O.opens H.item (Load 0 result)) token.new }
-    {
-        let _item = item;
-        self.words.load_handing::<O, H>(token, GLOBAL)
-    }
-
-    /// Retires an item, as `ck_epoch_call`: it is pending from now on, with the global epoch that this call loads.
-    pub fn call<O: Opens, F>(&self, writer: &mut Writer<C, F>, item: Item)
-        requires table { table writer.old.token ≡ self.now }
-        requires calls { writer.old.calls < 2 ^ 40 }
-        requires retires { C.meaning.retires self.now.origin.config.client item ≡ true }
-        requires room { length (state writer.old.token).pending + length writer.old.waiting < writer.old.room }
-        requires client { IsWriting C.meaning writer.old.token → (n : ℕ) → n < 2 ^ 64 → MayFollow C.meaning writer.old.token (handing O.opens (item.at ∷ item.log ∷ []) (Load 0 n)) }
-        ensures step { writer.new ≡ record writer.old {
-          token = adding writer.old.token (handing O.opens (item.at ∷ item.log ∷ []) (Load 0 (state writer.old.token).epoch) ∷ []);
-          calls = writer.old.calls + 1;
-        } }
-        ensures pending { queue (state writer.new.token).pending ≡ queue (state writer.old.token).pending ++ record { item = item; epoch = (state writer.old.token).epoch } ∷ [] }
-        ensures same { ((state writer.new.token).dispatched ≡ (state writer.old.token).dispatched) × ((state writer.new.token).epoch ≡ (state writer.old.token).epoch) }
-        ensures part { IsInRun C.meaning writer.new.token }
-    {
-        let epoch = self.retire::<O, Brand>(&mut writer.token, item);
-        writer.backlog.retire(&writer.token, item, epoch);
-        writer.calls += 1;
-    }
-
-    /// Takes the answer that waits longest. None comes exactly where none waits.
-    pub fn next_back<F>(&self, writer: &mut Writer<C, F>) -> Option<Back>
-        requires table { table writer.old.token ≡ self.now }
-        ensures oldest { MatchOption result ((writer.old.waiting ≡ []) × (writer.new.waiting ≡ [])) (λ b. writer.old.waiting ≡ b ∷ writer.new.waiting) }
-        ensures same { writer.new ≡ record writer.old { waiting = writer.new.waiting } }
-    {
-        writer.backlog.next_back()
-    }
-
     // The first step of a poll.
     fn start_poll(&self, token: &mut Token<About<C>>) -> u64
         requires table { table token.old ≡ self.now }
@@ -118,10 +48,12 @@ impl<C: Client> Domain<C> {
             (λ found. Did C.meaning t token.new epoch (Behind rec found)) }
     {
         let active = self.words.load::<Continues>(token, active_word(rec));
+        // Its epoch word may be old, but no section is open.
         if active == 0 {
             return Ok(first);
         }
         let found = self.words.load::<Continues>(token, epoch_word(rec));
+        // Equal, and not at most: an active record with any other epoch is one that hasn't seen the last rise.
         if found == epoch {
             return Ok(Some(first.unwrap_or(rec)));
         }
@@ -147,6 +79,7 @@ impl<C: Client> Domain<C> {
         match first {
             None => Scan::Clear,
             Some(rec) => {
+                // This writer alone moves the epoch, so the exchange finds what it loaded.
                 self.words
                     .exchange::<Continues>(token, GLOBAL, epoch, epoch + 1);
                 Scan::Current { rec }
@@ -172,17 +105,22 @@ impl<C: Client> Domain<C> {
     {
         let client = &self.about.client;
         let epoch = self.start_poll(&mut writer.token);
+        // An open section has the epoch e or e - 1, and what was retired since it opened has at least that epoch. So no open section is
+        // older than the items of e - 2. In the arithmetic, e is at least 4.
         let before = writer
             .backlog
             .dispatch_list(client, &writer.token, (epoch - 2) % 4, &writer.handler);
         writer.calls += 1;
         match self.scan(&mut writer.token, epoch) {
+            // Each record was inactive at a moment since the load of e, and the writer, which alone retires, retired nothing since. So no
+            // section that is open now opened before anything that is pending was retired.
             Scan::Clear => {
                 let rest = writer
                     .backlog
                     .dispatch_all(client, &writer.token, &writer.handler);
                 Poll::Clear { n: before + rest }
             }
+            // The epoch is e + 1 now, and no active record lags behind e: the list of e - 1 is two behind, as that of e - 2 was before.
             Scan::Current { rec } => {
                 let rest = writer
                     .backlog

@@ -1,5 +1,5 @@
 use Rattle.ck_signal.proofs.TrueSignals.{true_signals}
-use Rattle.ck_signal.proofs.law.holds_after_every_run.Goals as goal
+use Rattle.ck_signal.proofs.laws.signals_law.Goals as goal
 
 pub returns : goal.returns
 returns g c = true_signals g.C.Client.meaning g.met.C.Client.grows g.met.C.Client.rises
