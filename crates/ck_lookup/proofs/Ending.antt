@@ -71,8 +71,7 @@ module _ (held : List ℕ → Option (List ℕ)) (names : List (List ℕ)) where
   -- a report of the files that there are is one of the files that are told
   told_report : (text : List ℕ) (u : List ℕ) (qs : List (List ℕ)) → HasReport held names text → Tells held names u qs → AreAccepted u qs × IsReport u qs text
   told_report text u qs has tells =
-      let same = told_files u qs has.update_file has.query_files has.read tells in
-      (
+      let same = told_files u qs has.update_file has.query_files has.read tells in (
         subst (λ q. AreAccepted u q) same.1 (subst (λ v. AreAccepted v has.query_files) same.0 has.accepted),
         subst (λ q. IsReport u q text) same.1 (subst (λ v. IsReport v has.query_files text) same.0 has.report),
       )

@@ -38,7 +38,7 @@ pub fn run<R: Threads + Wait + Sync, S: Shelf, K: Sink, G: Gate + Sync>(
         → Tells (S.held shelf.old) (names c) update_file query_files
         → result ≡ Done
         → AreAccepted update_file query_files
-            × ((text : List ℕ) × IsReport update_file query_files text × (K.taken sink.new ≡ appended (K.taken sink.old) text)) }
+        × ((text : List ℕ) × IsReport update_file query_files text × (K.taken sink.new ≡ appended (K.taken sink.old) text)) }
 
     // Every outcome has its cause, and none of the refusals that come before it. Where the shelf tells no bytes, there are
     // bytes for each file of which all this holds.
