@@ -1,9 +1,11 @@
 -- From what each part of a run says to why the run ends as it does.
-use Rattle.std.proofs.Common.{◌≡◌, ℕ, zero, suc, ◌+◌, ◌≤◌, List, [], ◌∷◌, ◌++◌, map, take, Option, Some, None, Result, Ok, Err, IfOk, IfErr, OnOk, refl, ap, subst, ◌∙◌, arith, inl, inr, decimal}
+use Rattle.std.proofs.Common.{◌≡◌, ℕ, zero, suc, ◌+◌, ◌≤◌, List, [], ◌∷◌, ◌++◌, map, take, Option, Some, None, Result, Ok, Err, IfOk, IfErr, OnOk, refl, ap, subst, ◌∙◌, ◌⊎◌, Vec, arith, inl, inr, decimal}
+use Rattle.std.specs.declared.alloc.Global.{Global}
 use Rattle.std.specs.List.{AllByRecursion}
 use Rattle.std.proofs.lemmas.List.Sums.{sum_by-take-le}
 use Rattle.std.specs.Prelude.{length, slice_get}
-use Rattle.ck_io.specs.Sink.{appended}
+use Rattle.ck_io.specs.Sink.{appended, AppendsPrefix}
+use Rattle.ck_report.specs.declared.put.PutError.TheVariants.{Memory}
 use Rattle.ck_history.specs.Key.{IsKey}
 use Rattle.ck_history.specs.declared.update.Update.{Update}
 use Rattle.ck_script.specs.declared.fault.ScriptFault.{ScriptFault}
@@ -13,7 +15,7 @@ use Rattle.ck_script.specs.declared.line.AskLine.{AskLine}
 use Rattle.ck_script.specs.Checks.{range_fault}
 use Rattle.ck_script.specs.Grammar.{FileSays, IsUpdateLine, update_words, IsQueryLine, query_words}
 use Rattle.ck_script.specs.Keys.{one_table_key}
-use Rattle.ck_script.specs.Script.{QueriesSay, said_of}
+use Rattle.ck_script.specs.Script.{QueriesSay, said_of, script_of}
 use Rattle.ck_script.proofs.Meaning.{one_update_file, one_query_file}
 use Rattle.ck_script.proofs.Saying.{no_first_fault}
 use Rattle.ck_lookup.specs.declared.outcome.Outcome.{Outcome}
@@ -22,9 +24,16 @@ use Rattle.ck_lookup.specs.Headline.{IsReport}
 use Rattle.ck_lookup.specs.Limits.{AreWithin, line_count}
 use Rattle.ck_command.specs.Words.{Command, names}
 use Rattle.ck_lookup.specs.Causes.{Tells, AreRead, AreSaid, AreAccepted, IsBadScript, IsLawful, IsFaultOf, HasReport, Outside, Ends, IsClear, IsDoneOrNoMemory}
-use Rattle.ck_lookup.specs.Running.{AreRunnable, IsRefusedScript, IsRefusedRun, text_of}
-use Rattle.ck_lookup.proofs.Reporting.{report_of_scripts}
+use Rattle.ck_lookup.specs.Running.{AreRunnable, IsRefusedScript, IsRefusedRun, MayBegin, IsTextOf, HasPut}
+use Rattle.ck_lookup.proofs.Reporting.{report_is, begins}
 use Rattle.ck_lookup.proofs.Told.{read_told}
+
+-- as many files were read as there are names
+read_long : {N : Type 0} (told : N → Option (List ℕ)) (names : List N) (files : List (List ℕ)) → AreRead told names files → length files ≡ length names
+read_long told [] [] read = refl
+read_long told [] (f ∷ files) read = absurd read
+read_long told (n ∷ names) [] read = absurd read
+read_long told (n ∷ names) (f ∷ files) read = let h = read_long told names files read.1 in omega arith
 
 module _ (held : List ℕ → Option (List ℕ)) (names : List (List ℕ)) where
   -- what the shelf tells of files is what was read
@@ -58,15 +67,27 @@ module _ (held : List ℕ → Option (List ℕ)) (names : List (List ℕ)) where
     said = said;
   }
 
-  -- the text of what they say is a report
-  pub runnable_report : (ups : List (Numbered (UpLine (Update ℕ)))) (asks : List (List (Numbered (AskLine ℕ)))) → AreRunnable held names ups asks → HasReport held names (text_of (said_of ups) (map said_of asks))
-  runnable_report ups asks r = record {
+  -- a text of what they ask for is a report
+  pub runnable_report : (ups : List (Numbered (UpLine (Update ℕ)))) (asks : List (List (Numbered (AskLine ℕ)))) (text : List ℕ) → AreRunnable held names ups asks → IsTextOf (script_of (said_of ups) (map said_of asks)) text → HasReport held names text
+  runnable_report ups asks text r is = record {
     update_file = r.update_file;
     query_files = r.query_files;
     read = r.read;
     accepted = record { within = r.within; ups = ups; asks = asks; said = r.said };
-    report = report_of_scripts r.update_file r.query_files ups asks _ r.said.updates_said r.said.queries_said r.said.in_range refl;
+    report = report_is r.update_file r.query_files ups asks text r.said is;
   }
+
+  -- where memory ran out, nothing was put, or the front of a report
+  pub memory_ends : (ups : List (Numbered (UpLine (Update ℕ)))) (asks : List (List (Numbered (AskLine ℕ)))) (before after : Option (List ℕ)) (Fetched : Type 0) → AreRunnable held names ups asks → Fetched → HasPut (script_of (said_of ups) (map said_of asks)) before after Memory
+      → (after ≡ before) ⊎ (Fetched × ((text : List ℕ) × HasReport held names text × AppendsPrefix before after text))
+  memory_ends ups asks before after Fetched r fetched (inl same) = inl same
+  memory_ends ups asks before after Fetched r fetched (inr (text, is, front)) = inr (fetched, (text, runnable_report ups asks text r is, front))
+
+  -- what 1 to 64 query files say may begin
+  pub runnable_begins : (ups : List (Numbered (UpLine (Update ℕ)))) (asks : List (Vec (Numbered (AskLine ℕ)) Global)) → AreRunnable held names ups (map (λ file. file.items) asks) → 2 ≤ length names → length names ≤ 65 → MayBegin ups asks
+  runnable_begins ups asks r some few =
+      let long : length (r.update_file ∷ r.query_files) ≡ length names = read_long held names (r.update_file ∷ r.query_files) r.read in
+      begins r.update_file r.query_files ups asks r.within r.said (omega (arith, long, some)) (omega (arith, long, few))
 
   -- a report of the files that there are is one of the files that are told
   told_report : (text : List ℕ) (u : List ℕ) (qs : List (List ℕ)) → HasReport held names text → Tells held names u qs → AreAccepted u qs × IsReport u qs text

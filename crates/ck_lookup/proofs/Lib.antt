@@ -1,6 +1,8 @@
 pub mod Within
 pub mod Told
 pub mod Scripting
-pub mod Answering
+mod Counting
+mod Asking
+mod Commanding
 pub mod Reporting
 pub mod Ending

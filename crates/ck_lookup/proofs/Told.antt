@@ -1,5 +1,5 @@
 -- Files that are read one after another, and what is told of them.
-use Rattle.std.proofs.Common.{◌≡◌, ℕ, zero, suc, ◌+◌, ◌<◌, ◌≤◌, List, [], ◌∷◌, ◌++◌, length, map, take, get_or, replicate, Option, Some, None, IfSome, refl, ap, subst, sym, ◌∙◌, arith, add-one}
+use Rattle.std.proofs.Common.{◌≡◌, ℕ, zero, suc, ◌+◌, ◌<◌, List, [], ◌∷◌, ◌++◌, length, map, take, get_or, replicate, Option, Some, None, IfSome, refl, ap, subst, sym, ◌∙◌, arith, add-one}
 use Rattle.std.specs.Prelude.{slice_get}
 use Rattle.std.proofs.lemmas.List.{take-map, length-replicate}
 use Rattle.std.proofs.lemmas.Option.{slice_get_within, get_or_from_slice_get}
@@ -8,7 +8,7 @@ use Rattle.ck_io.specs.Faults.{Rose}
 use Rattle.ck_lookup.specs.declared.outcome.Outcome.{Outcome}
 use Rattle.ck_lookup.specs.declared.outcome.Outcome.TheVariants.{Done, Usage, ReadFault, BadScript, TooLarge, WriteFault, NoMemory}
 use Rattle.ck_lookup.specs.Limits.{AreWithin, most_bytes}
-use Rattle.ck_lookup.specs.Causes.{AreRead, AreFirstWithin, IsTooLarge, IsReadFault}
+use Rattle.ck_lookup.specs.Causes.{AreRead, AreFirstWithin, IsTooLarge}
 use Rattle.ck_lookup.specs.Fetching.{IsPast, IsRefusedNext}
 use Rattle.ck_lookup.specs.Running.{IsRefusedRun}
 use Rattle.ck_lookup.proofs.Within.{too_long_past}

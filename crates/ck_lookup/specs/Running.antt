@@ -1,36 +1,65 @@
 -- What the parts of a run make of its files.
-use Rattle.std.specs.Prelude.{◌≡◌, ℕ, suc, ◌<◌, List, [], ◌∷◌, map, Some, Option, slice_get, decimal}
+use Rattle.std.specs.Prelude.{◌≡◌, ℕ, suc, ◌<◌, ◌≤◌, ◌⊎◌, List, [], ◌∷◌, length, map, Some, None, Option, Vec, slice_get, decimal}
+use Rattle.std.specs.declared.alloc.Global.{Global}
 use Rattle.std.specs.Ordering.{nat_cmp}
-use Rattle.ck_history.specs.Map.{Map, find, after_from, replies}
+use Rattle.ck_io.specs.Sink.{AppendsPrefix}
+use Rattle.ck_history.specs.Map.{after, answer_after, replies}
+use Rattle.ck_history.specs.Legal.{AllLegal}
 use Rattle.ck_history.specs.declared.update.Update.{Update}
 use Rattle.ck_script.specs.declared.line.Numbered.{Numbered}
 use Rattle.ck_script.specs.declared.line.UpLine.{UpLine}
 use Rattle.ck_script.specs.declared.line.AskLine.{AskLine}
+use Rattle.ck_script.specs.declared.line.AskLine.TheVariants.{Ask, Wait}
 use Rattle.ck_script.specs.declared.fault.ScriptError.{ScriptError}
 use Rattle.ck_script.specs.declared.fault.ScriptError.TheVariants.{Fault, Memory}
 use Rattle.ck_script.specs.declared.fault.ScriptFault.{ScriptFault}
-use Rattle.ck_script.specs.Script.{updates, queries}
+use Rattle.ck_script.specs.Checks.{range_fault}
+use Rattle.ck_script.specs.Script.{said_of, holds, Script}
 use Rattle.ck_report.specs.declared.asked.Asked.{Asked}
+use Rattle.ck_report.specs.declared.put.PutError.{PutError}
+use Rattle.ck_report.specs.declared.put.PutError.TheVariants.{Failed}
+use Rattle.ck_report.specs.declared.put.PutError.TheVariants as put
 use Rattle.ck_report.specs.Text.{report_text}
+use Rattle.ck_pool.specs.Served.{line_total}
 use Rattle.ck_lookup.specs.declared.outcome.Outcome.{Outcome}
 use Rattle.ck_lookup.specs.declared.outcome.Outcome.TheVariants.{ReadFault, BadScript, TooLarge, NoMemory}
-use Rattle.ck_lookup.specs.Headline.{capacity}
+use Rattle.ck_lookup.specs.Headline.{capacity, all_asked}
 use Rattle.ck_lookup.specs.Limits.{AreWithin}
 use Rattle.ck_lookup.specs.Causes.{IsFaultOf, IsLawful, IsBadScript, HasBadScript, IsReadFault, IsTooLarge, AreRead, AreSaid}
 
--- the answers of one map to queries
-abbrev pub answers_of : Map ℕ → List (ℕ × ℕ) → List (Asked ℕ)
-answers_of m qs = map (λ q. record { key = q.0; found = find nat_cmp m q.0 }) qs
+-- the queries among a file's lines, each with the next answer
+abbrev pub asked_lines : List (AskLine ℕ) → List (Option ℕ) → List (Asked ℕ)
+asked_lines [] answers = []
+asked_lines (Wait n ∷ lines) answers = asked_lines lines answers
+asked_lines (Ask key ∷ lines) [] = []
+asked_lines (Ask key ∷ lines) (answer ∷ answers) = record { key = key; found = answer } ∷ asked_lines lines answers
 
--- the answers of one map to the queries of each file
-abbrev pub answers_of_files : Map ℕ → List (List (AskLine ℕ)) → List (List (Asked ℕ))
-answers_of_files m files = map (λ asks. answers_of m (queries 0 asks)) files
+-- the same of each file
+abbrev pub asked_of_files : List (List (AskLine ℕ)) → List (List (Option ℕ)) → List (List (Asked ℕ))
+asked_of_files (lines ∷ files) (answers ∷ more) = asked_lines lines answers ∷ asked_of_files files more
+asked_of_files _ _ = []
 
--- the report where all updates come before all queries
-abbrev pub text_of : List (UpLine (Update ℕ)) → List (List (AskLine ℕ)) → List ℕ
-text_of ups files =
-    let last = after_from nat_cmp capacity [] (updates ups) in
-    report_text decimal (replies nat_cmp capacity (updates ups)) (answers_of_files last files) last
+-- A job that a run may begin: there are 1 to 64 query files, the lines are within the limits, none is beyond what there is, and none is a `hold`
+pub record MayBegin (ups : List (Numbered (UpLine (Update ℕ)))) (asks : List (Vec (Numbered (AskLine ℕ)) Global)) : Type 0 where
+  pub some_file : 1 ≤ length asks
+  pub few_files : length asks ≤ 64
+  pub short : line_total ups asks ≤ 4000000
+  pub in_range : range_fault ups (map (λ file. file.items) asks) ≡ None
+  pub no_hold : holds 0 (said_of ups) ≡ []
+
+-- the text is a report of what was asked for
+pub record IsTextOf (script : Script ℕ) (text : List ℕ) : Type 0 where
+  pub answers : List (List (Option ℕ))
+  pub legal : AllLegal (length script.updates) (answer_after nat_cmp capacity script.updates) script.files answers
+  pub printed : text ≡ report_text decimal
+      (replies nat_cmp capacity script.updates)
+      (all_asked script.files answers)
+      (after nat_cmp capacity script.updates (length script.updates))
+
+-- Where the report wasn't put whole: what the sink took is the front of a report, or nothing was put because there was no memory
+abbrev pub HasPut : Script ℕ → Option (List ℕ) → Option (List ℕ) → PutError → Type 0
+HasPut script before after Failed = (text : List ℕ) × IsTextOf script text × AppendsPrefix before after text
+HasPut script before after put.Memory = (after ≡ before) ⊎ ((text : List ℕ) × IsTextOf script text × AppendsPrefix before after text)
 
 -- the outcome of a script that wasn't read
 abbrev pub refusal_of : ℕ → ScriptError → Outcome

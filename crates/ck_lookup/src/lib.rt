@@ -1,6 +1,7 @@
 //! The whole of `lookup`: from the words of the command line and the bytes of the files to the bytes of the report.
 #![tactic(auto)]
 
+mod asked;
 mod fetch;
 mod files;
 mod lookup;
@@ -8,7 +9,6 @@ mod outcome;
 mod program;
 mod report;
 mod scripts;
-mod table;
 #[cfg(test)]
 mod tests;
 

@@ -1,4 +1,4 @@
-ghost use Rattle.std.specs.Prelude.{◌≡◌, ◌≤◌, ◌⊎◌, ℕ, List, ◌∷◌, map, Some, None, string_bytes, IfOk, IfErr};
+ghost use Rattle.std.specs.Prelude.{◌≡◌, ◌≤◌, ◌⊎◌, ℕ, List, ◌∷◌, length, map, Some, None, string_bytes, IfOk, IfErr};
 ghost use Rattle.ck_io.specs.Faults.{NeverFall};
 ghost use Rattle.ck_io.specs.Sink.{appended};
 ghost use Rattle.ck_lookup.specs.declared.outcome.Outcome.TheVariants.{Done, Usage, NoMemory};
@@ -7,7 +7,7 @@ ghost use Rattle.ck_lookup.specs.Headline.{IsReport};
 ghost use Rattle.ck_lookup.specs.Causes.{Tells, AreAccepted, Ends, IsClear, IsDoneOrNoMemory};
 
 use crate::outcome::Outcome;
-use crate::report::{put_scripts, scripts_of};
+use crate::report::{job_of, put_job};
 use ck_command::read_words;
 use ck_io::{Gate, Shelf, Sink};
 use ck_report::PutError;
@@ -15,11 +15,11 @@ use std::alloc::Global;
 use std::sync::Wait;
 use std::thread::Threads;
 
-/// Does all that `lookup` does: reads the words, fetches the files that they name, checks them, makes the updates,
-/// answers the queries, and puts the report to the sink. The words are those after the program's name. Until the run
-/// has threads, all updates come before all queries, and nothing here waits.
+/// Does all that `lookup` does: reads the words, fetches the files that they name, checks them, makes the updates in one
+/// task and answers the queries in others, side by side, and then puts the report to the sink. The words are those after
+/// the program's name.
 pub fn run<R: Threads + Wait + Sync, S: Shelf, K: Sink, G: Gate + Sync>(
-    _rt: &R,
+    rt: &R,
     alloc: Global,
     words: &[String],
     shelf: &mut S,
@@ -73,21 +73,37 @@ pub fn run<R: Threads + Wait + Sync, S: Shelf, K: Sink, G: Gate + Sync>(
     ensures sink_lasting { K.faults sink.old ≤ K.faults sink.new }
 {
     match read_words(alloc, words) {
-        Ok(Some(command)) => run_table(alloc, command.updates, &command.queries, shelf, sink, gate),
+        Ok(Some(command)) => {
+            let workers = command.workers;
+            run_table(
+                rt,
+                alloc,
+                command.updates,
+                &command.queries,
+                workers,
+                shelf,
+                sink,
+                gate,
+            )
+        }
         Ok(None) => Outcome::Usage,
         Err(_) => Outcome::NoMemory,
     }
 }
 
 // A run of the files under these names.
-fn run_table<S: Shelf, K: Sink, G: Gate>(
+fn run_table<R: Threads + Wait + Sync, S: Shelf, K: Sink, G: Gate + Sync>(
+    rt: &R,
     alloc: Global,
     updates: &str,
     queries: &[&str],
+    workers: u64,
     shelf: &mut S,
     sink: &mut K,
     gate: &G,
 ) -> Outcome
+    requires queries { (1 ≤ length queries.now) × (length queries.now ≤ 64) }
+    requires workers { (1 ≤ workers) × (workers ≤ 16) }
     ensures ends { Ends (record {
       held = S.held shelf.old;
       shelf_before = S.faults shelf.old;
@@ -101,9 +117,9 @@ fn run_table<S: Shelf, K: Sink, G: Gate>(
     ensures shelf_lasting { NeverFall (S.faults shelf.old) (S.faults shelf.new) }
     ensures sink_lasting { K.faults sink.old ≤ K.faults sink.new }
 {
-    match scripts_of(alloc, updates, queries, shelf) {
+    match job_of(alloc, updates, queries, shelf) {
         Err(refusal) => refusal,
-        Ok(scripts) => match put_scripts(alloc, &scripts, sink, gate) {
+        Ok(job) => match put_job(rt, alloc, &job, workers, sink, gate) {
             Ok(()) => Outcome::Done,
             Err(PutError::Failed) => Outcome::WriteFault,
             Err(PutError::Memory) => Outcome::NoMemory,

@@ -1,66 +1,74 @@
-ghost use Rattle.std.specs.Prelude.{◌≡◌, ◌∷◌, List, ℕ, IfOk, IfErr, OnOk, OnErr, map, length, ◌<◌, ◌≤◌};
+ghost use Rattle.std.specs.Prelude.{◌≡◌, ◌∷◌, List, ℕ, IfOk, IfErr, OnOk, map, length, ◌<◌, ◌≤◌};
 ghost use Rattle.ck_io.specs.Faults.{NeverFall};
-ghost use Rattle.ck_io.specs.Sink.{appended, AppendsPrefix};
+ghost use Rattle.ck_io.specs.Sink.{appended};
 ghost use Rattle.ck_report.specs.Streaming.{IsPutCause};
-ghost use Rattle.ck_script.specs.Script.{said_of};
+ghost use Rattle.ck_pool.specs.Snapshots.{job_script};
 ghost use Rattle.ck_lookup.specs.Causes.{AreSaid};
-ghost use Rattle.ck_lookup.specs.Running.{AreRunnable, IsRefusedScript, IsRefusedRun, text_of};
+ghost use Rattle.ck_lookup.specs.Running.{AreRunnable, IsRefusedScript, IsRefusedRun, MayBegin, IsTextOf, HasPut};
 
+use crate::asked::asked_files;
 use crate::fetch::fetch_all;
 use crate::outcome::Outcome;
 use crate::scripts::{Scripts, read_scripts};
-use crate::table::{answer_files, make_updates};
 use ck_io::{Gate, Shelf, Sink};
+use ck_pool::{Job, run_over_snap};
 use ck_report::{PutError, put_report};
+use ck_snap::Snap;
 use std::alloc::Global;
+use std::sync::Wait;
+use std::thread::Threads;
 
-/// What the files under these names say, or the outcome of a run that gets no report.
-pub fn scripts_of<S: Shelf>(
+/// What the files under these names ask for, or the outcome of a run that gets no report.
+pub fn job_of<S: Shelf>(
     alloc: Global,
     updates: &str,
     queries: &[&str],
     shelf: &mut S,
-) -> Result<Scripts, Outcome>
-    ensures runnable { IfOk result (λ scripts. AreRunnable (S.held shelf.old) (updates.now ∷ map (λ name. name.now) queries.now) scripts.ups.items (map (λ file. file.items) scripts.asks.items)) }
+) -> Result<Job<Snap>, Outcome>
+    ensures runnable { IfOk result (λ job. AreRunnable (S.held shelf.old) (updates.now ∷ map (λ name. name.now) queries.now) job.ups.items (map (λ file. file.items) job.asks.items)) }
     ensures fetched { OnOk result (S.faults shelf.new ≡ S.faults shelf.old) }
     ensures refused { IfErr result (IsRefusedRun (S.held shelf.old) (updates.now ∷ map (λ name. name.now) queries.now) (S.faults shelf.old) (S.faults shelf.new)) }
     ensures held { S.held shelf.new ≡ S.held shelf.old }
     ensures lasting { NeverFall (S.faults shelf.old) (S.faults shelf.new) }
 {
     let files = fetch_all(alloc, shelf, updates, queries)?;
-    scripts_of_files(alloc, files.all())
+    job_of_files(alloc, files.all())
 }
 
-// What the bytes of files say, the update file first.
-fn scripts_of_files(alloc: Global, files: &[Vec<u8>]) -> Result<Scripts, Outcome>
+// What the bytes of files ask for, the update file first.
+fn job_of_files(alloc: Global, files: &[Vec<u8>]) -> Result<Job<Snap>, Outcome>
     requires { 0 < length files.now }
     ensures said { (update_file : List ℕ) (query_files : List (List ℕ)) → map (λ file. file.items) files.now ≡ update_file ∷ query_files
-        → IfOk result (λ scripts. AreSaid update_file query_files scripts.ups.items (map (λ file. file.items) scripts.asks.items)) }
+        → IfOk result (λ job. AreSaid update_file query_files job.ups.items (map (λ file. file.items) job.asks.items)) }
     ensures refused { (update_file : List ℕ) (query_files : List (List ℕ)) → map (λ file. file.items) files.now ≡ update_file ∷ query_files
         → IfErr result (IsRefusedScript update_file query_files) }
 {
     match files {
         [] => unreachable!(),
         [update_file, query_files @ ..] => {
-            let scripts = read_scripts(alloc, update_file, query_files)?;
-            Ok(scripts)
+            let Scripts { ups, asks } = read_scripts(alloc, update_file, query_files)?;
+            Ok(Job { ups, asks })
         }
     }
 }
 
-/// Puts the report of what files say, piece by piece.
-pub fn put_scripts<K: Sink, G: Gate>(
+/// Runs a job, and then puts its report, piece by piece. All tasks of the job have ended before the first piece.
+pub fn put_job<R: Threads + Wait + Sync, K: Sink, G: Gate + Sync>(
+    rt: &R,
     alloc: Global,
-    scripts: &Scripts,
+    job: &Job<Snap>,
+    workers: u64,
     sink: &mut K,
     gate: &G,
 ) -> Result<(), PutError>
-    ensures all { OnOk result (K.taken sink.new ≡ appended (K.taken sink.old) (text_of (said_of scripts.now.ups.items) (map said_of (map (λ file. file.items) scripts.now.asks.items)))) }
-    ensures prefix { OnErr result (AppendsPrefix (K.taken sink.old) (K.taken sink.new) (text_of (said_of scripts.now.ups.items) (map said_of (map (λ file. file.items) scripts.now.asks.items)))) }
+    requires workers { (1 ≤ workers) × (workers ≤ 16) }
+    requires may { MayBegin job.now.ups.items job.now.asks.items }
+    ensures all { OnOk result ((text : List ℕ) × IsTextOf (job_script job.now.ups.items job.now.asks.items) text × (K.taken sink.new ≡ appended (K.taken sink.old) text)) }
+    ensures prefix { IfErr result (HasPut (job_script job.now.ups.items job.now.asks.items) (K.taken sink.old) (K.taken sink.new)) }
     ensures cause { IfErr result (λ error. IsPutCause error (K.faults sink.old) (K.faults sink.new)) }
     ensures lasting { K.faults sink.old ≤ K.faults sink.new }
 {
-    let (book, replies) = make_updates(alloc, &scripts.ups, gate)?;
-    let answers = answer_files(alloc, &book, &scripts.asks, gate)?;
-    put_report(alloc, sink, &replies, &answers, book.pairs())
+    let answered = run_over_snap(rt, alloc, job, workers, gate)?;
+    let asked = asked_files(alloc, &job.asks, &answered.answers)?;
+    put_report(alloc, sink, &answered.replies, &asked, &answered.pairs)
 }

@@ -12,6 +12,8 @@ use std::sync::atomic::Ordering::SeqCst;
 use std::test::Fail;
 use std::thread::Threads;
 
+mod threads;
+
 // Runs words over files into a sink.
 fn ran_into<R: Threads + Wait + Sync>(
     rt: &R,

@@ -1,4 +1,4 @@
-use Rattle.std.proofs.Common.{◌≡◌, take, ◌∷◌, ◌++◌, map}
+use Rattle.std.proofs.Common.{◌≡◌, take, ◌∷◌, map}
 use Rattle.ck_lookup.specs.Limits.{AreWithin}
 use Rattle.ck_lookup.specs.Causes.{AreRead}
 use Rattle.ck_lookup.proofs.fetch.fetch_all.Given as goal

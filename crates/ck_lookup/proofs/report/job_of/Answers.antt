@@ -1,13 +1,13 @@
 use Rattle.std.proofs.Common.{◌∷◌, map, ◌∙◌}
 use Rattle.ck_lookup.proofs.Ending.{runnable, refused_script, some_read, ok_more, err_more, ok_each}
-use Rattle.ck_lookup.proofs.report.scripts_of.Goals as goal
+use Rattle.ck_lookup.proofs.report.job_of.Goals as goal
 
 pub returns-clause-runnable : goal.returns-clause-runnable
 returns-clause-runnable g c =
     let names = c.args.updates.now ∷ map (λ name. name.now) c.args.queries.now in
     let some = some_read (g.S.Shelf.held c.args.shelf.now) c.args.updates.now (map (λ name. name.now) c.args.queries.now) _ c.in_ok-files.ensures.read in
-    ok_more _ (λ scripts said. runnable (g.S.Shelf.held c.args.shelf.now) names _ some.0 some.1 _ _ some.2 c.in_ok-files.ensures.read c.in_ok-files.ensures.within said)
-    (c.scripts_of_files.ensures.said some.0 some.1 (c.all.ensures.all ∙ some.2))
+    ok_more _ (λ job said. runnable (g.S.Shelf.held c.args.shelf.now) names _ some.0 some.1 _ _ some.2 c.in_ok-files.ensures.read c.in_ok-files.ensures.within said)
+    (c.job_of_files.ensures.said some.0 some.1 (c.all.ensures.all ∙ some.2))
 
 pub returns-clause-fetched : goal.returns-clause-fetched
 returns-clause-fetched g c = ok_each _ _ c.in_ok-files.ensures.fetched
@@ -17,4 +17,4 @@ returns-clause-refused g c =
     let names = c.args.updates.now ∷ map (λ name. name.now) c.args.queries.now in
     let some = some_read (g.S.Shelf.held c.args.shelf.now) c.args.updates.now (map (λ name. name.now) c.args.queries.now) _ c.in_ok-files.ensures.read in
     err_more _ (λ outcome refused. refused_script (g.S.Shelf.held c.args.shelf.now) names _ (g.S.Shelf.faults c.args.shelf.now) (g.S.Shelf.faults c.fetch_all.new.shelf) outcome some.0 some.1 some.2 c.in_ok-files.ensures.read c.in_ok-files.ensures.within c.in_ok-files.ensures.fetched refused)
-    (c.scripts_of_files.ensures.refused some.0 some.1 (c.all.ensures.all ∙ some.2))
+    (c.job_of_files.ensures.refused some.0 some.1 (c.all.ensures.all ∙ some.2))

@@ -1,0 +1,111 @@
+//! Runs of several tasks at once.
+use super::{owned, ran, shelved};
+use crate::{Outcome, run};
+use ck_io::{Gate, MemShelf, MemSink};
+use std::alloc::{AllocError, Global};
+use std::sync::Wait;
+use std::sync::atomic::AtomicBool;
+use std::sync::atomic::Ordering::SeqCst;
+use std::test::Fail;
+use std::thread::Threads;
+
+// A gate that holds two lines, each given by its file and its number, until the other is reached, or for a long time.
+#[derive(Drop)]
+struct MeetingGate {
+    first: (u64, u64),
+    second: (u64, u64),
+    first_reached: AtomicBool,
+    second_reached: AtomicBool,
+    first_met: AtomicBool,
+    second_met: AtomicBool,
+}
+
+impl MeetingGate {
+    fn new(first: (u64, u64), second: (u64, u64)) -> MeetingGate {
+        MeetingGate {
+            first,
+            second,
+            first_reached: AtomicBool::new(false),
+            second_reached: AtomicBool::new(false),
+            first_met: AtomicBool::new(false),
+            second_met: AtomicBool::new(false),
+        }
+    }
+}
+
+// Tells that one line is reached, and holds until the other is, or for a long time.
+fn hold(mine: &AtomicBool, other: &AtomicBool, met: &AtomicBool) {
+    mine.store(true, SeqCst);
+    for _turn in 0..1_000_000_000u64 {
+        if other.load(SeqCst) {
+            met.store(true, SeqCst);
+            return;
+        }
+    }
+}
+
+impl Gate for MeetingGate {
+    fn before(&self, who: u64, line: u64) {
+        if self.first.0 == who && self.first.1 == line {
+            hold(&self.first_reached, &self.second_reached, &self.first_met);
+        }
+        if self.second.0 == who && self.second.1 == line {
+            hold(&self.second_reached, &self.first_reached, &self.second_met);
+        }
+    }
+}
+
+// Whether a run of these words over these files reaches both lines at once.
+fn meets<R: Threads + Wait + Sync>(
+    rt: &R,
+    alloc: Global,
+    words: &[&str],
+    texts: &[&str],
+    gate: &MeetingGate,
+) -> Result<bool, AllocError> {
+    let words = owned(alloc, words)?;
+    let mut shelf = MemShelf::new(shelved(alloc, texts)?, Vec::new(alloc));
+    let mut sink = MemSink::new(alloc, 1000, 1000, Vec::new(alloc))?;
+    let outcome = run(rt, alloc, &words, &mut shelf, &mut sink, gate);
+    Ok(outcome == Outcome::Done && gate.first_met.load(SeqCst) && gate.second_met.load(SeqCst))
+}
+
+#[test]
+fn two_query_files_run_at_once(rt: HostRuntime) -> Result<(), Fail> {
+    let gate = MeetingGate::new((1, 1), (2, 1));
+    let words = ["table", "--workers", "2", "u", "q", "r"];
+    let texts = ["", "get 1\n", "get 1\n"];
+    assert_eq!(rt; meets(&rt, rt.alloc(), &words, &texts, &gate)?, true);
+    Ok(())
+}
+
+#[test]
+fn updates_run_beside_queries(rt: HostRuntime) -> Result<(), Fail> {
+    let gate = MeetingGate::new((0, 2), (1, 1));
+    let words = ["table", "--workers", "1", "u", "q"];
+    let texts = ["set 1 5\nset 1 6\n", "get 1\n"];
+    assert_eq!(rt; meets(&rt, rt.alloc(), &words, &texts, &gate)?, true);
+    Ok(())
+}
+
+#[test]
+fn a_query_without_a_wait_has_either_answer(rt: HostRuntime) -> Result<(), Fail> {
+    let alloc = rt.alloc();
+    let files = shelved(alloc, &["set 7 10\n", "get 7\n"])?;
+    let words = ["table", "u", "q"];
+    let (outcome, taken) = ran(
+        &rt,
+        alloc,
+        &words,
+        files,
+        Vec::new(alloc),
+        65536,
+        Vec::new(alloc),
+    )?;
+    assert_eq!(rt; outcome, Outcome::Done);
+    let before = b"u 1 fresh\nq 1 1 7 absent\nt 7 = 10\nend\n";
+    let after = b"u 1 fresh\nq 1 1 7 = 10\nt 7 = 10\nend\n";
+    let legal = taken.as_slice() == before.as_slice() || taken.as_slice() == after.as_slice();
+    assert_eq!(rt; legal, true);
+    Ok(())
+}
