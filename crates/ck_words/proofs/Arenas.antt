@@ -4,7 +4,7 @@ use Rattle.std.proofs.lemmas.Nat.{pow_pos}
 use Rattle.std.proofs.Math.Nat.{pow-le-pow_right, mul-le-mul_right, div-eq_of_eq-mul_right}
 use Rattle.std.specs.FinSet as set
 use Rattle.ck_words.specs.Tree.{IsConsistent, NoneOutFrom, TakesOut, PutsBack}
-use Rattle.ck_words.specs.Buddies.{Piece, piece, piece_cmp, Arena, with_out, IsOut, IsPlaced, IsFree, IsApart, HasWordOut, free_words, arena_of, IsArenaOf}
+use Rattle.ck_words.specs.Buddies.{Piece, piece, piece_cmp, Arena, with_pieces_out, IsPieceOut, IsAlignedIn, IsFree, ArePiecesApart, HasWordOut, free_words, arena_of, IsArenaOf}
 use Rattle.ck_words.proofs.Pieces.{IsRangeOf, IsNodeOut, row_size, out_node, out_more, out_less}
 use Rattle.ck_words.proofs.Words.{placed, in_tree, even, apart, free_of_whole}
 use Rattle.ck_words.proofs.Full.{none_free}
@@ -23,7 +23,7 @@ module _ (first log_len log_min free : ℕ) (h : List ℕ) (is : IsArenaOf first
   abbrev arena : List ℕ → Arena
   arena halvings = arena_of first log_len log_min halvings
 
-  pub arena_apart : IsApart (arena h)
+  pub arena_apart : ArePiecesApart (arena h)
   arena_apart = apart first log_len log_min h is.consistent is.nodes is.shortest
 
   -- the nodes' number is even
@@ -53,15 +53,15 @@ module _ (first log_len log_min free : ℕ) (h : List ℕ) (is : IsArenaOf first
     pub row_in_tree : node < length h
     row_in_tree = let tall = row_tall log least most in omega arith
 
-  placed_in : (p : Piece) (node : ℕ) → IsRangeOf first log_len log_min p node → IsPlaced (arena h) p
+  placed_in : (p : Piece) (node : ℕ) → IsRangeOf first log_len log_min p node → IsAlignedIn (arena h) p
   unfolding arena_of
   placed_in p node range = placed first log_len log_min p node range
 
   -- the arena after a piece was taken out
   pub record IsTaken (new : List ℕ) (p : Piece) : Type 0 where
-    pub placed : IsPlaced (arena h) p
+    pub placed : IsAlignedIn (arena h) p
     pub was_free : IsFree (arena h) p
-    pub is_out : arena new ≡ with_out (arena h) (set.insert ((arena h).out) p)
+    pub is_out : arena new ≡ with_pieces_out (arena h) (set.insert ((arena h).out) p)
     pub enough : 2 ^ p.log ≤ free
     pub is_arena : IsArenaOf first log_len log_min (free - 2 ^ p.log) new
 
@@ -98,10 +98,10 @@ module _ (first log_len log_min free : ℕ) (h : List ℕ) (is : IsArenaOf first
 
   -- the arena after a piece was given back
   pub record IsGiven (new : List ℕ) (p : Piece) : Type 0 where
-    pub is_out : arena new ≡ with_out (arena h) (set.remove ((arena h).out) p)
+    pub is_out : arena new ≡ with_pieces_out (arena h) (set.remove ((arena h).out) p)
     pub is_arena : IsArenaOf first log_len log_min (free + 2 ^ p.log) new
 
-  pub given : (p : Piece) (node : ℕ) (new : List ℕ) → IsOut (arena h) p → IsRangeOf first log_len log_min p node → IsConsistent new → length new ≡ length h → PutsBack h new node → IsGiven new p
+  pub given : (p : Piece) (node : ℕ) (new : List ℕ) → IsPieceOut (arena h) p → IsRangeOf first log_len log_min p node → IsConsistent new → length new ≡ length h → PutsBack h new node → IsGiven new p
   given p node new out range consistent long change =
       let is_out = out_less h new first log_len log_min p node is.shortest range change in
       let counted : free_words (arena new) ≡ free + 2 ^ p.log = ap free_words is_out ∙ free_words-remove (arena h) p arena_apart out ∙ ap (λ n. n + 2 ^ p.log) (sym is.free_is) in
@@ -131,7 +131,7 @@ module _ (first log_len log_min free : ℕ) (h : List ℕ) (is : IsArenaOf first
       div-eq_of_eq-mul_right (pow_pos p.log) (omega arith)
 
   -- a piece that is out is the range of a node that is out
-  pub piece_of_out : (p : Piece) → IsOut (arena h) p → (node : ℕ) × IsNodeOut h first log_len log_min p node
+  pub piece_of_out : (p : Piece) → IsPieceOut (arena h) p → (node : ℕ) × IsNodeOut h first log_len log_min p node
   piece_of_out p out = out_node h first log_len log_min p out is.shortest
 
   -- the node that the code reckons for a piece that is out
@@ -144,7 +144,7 @@ module _ (first log_len log_min free : ℕ) (h : List ℕ) (is : IsArenaOf first
     pub out : slice_index h node ≡ 26
     pub range : IsRangeOf first log_len log_min p node
 
-  pub node_of_out : (p : Piece) (node : ℕ) → IsOut (arena h) p → node ≡ (2 ^ log_len + (p.at - first)) / 2 ^ p.log → IsNodeOfOut p node
+  pub node_of_out : (p : Piece) (node : ℕ) → IsPieceOut (arena h) p → node ≡ (2 ^ log_len + (p.at - first)) / 2 ^ p.log → IsNodeOfOut p node
   node_of_out p node is_out reckoned =
       let at = piece_of_out p is_out in
       let range = at.1.range in
@@ -164,21 +164,21 @@ module _ (first log_len log_min free : ℕ) (h : List ℕ) (is : IsArenaOf first
         range = subst (IsRangeOf first log_len log_min p) same range;
       }
 
-  pub none_where_full : (log : ℕ) → log_min ≤ log → log ≤ log_len → log_len - log < slice_index h 1 → (at : ℕ) → IsPlaced (arena h) (piece at log) → HasWordOut (arena h) (piece at log)
+  pub none_where_full : (log : ℕ) → log_min ≤ log → log ≤ log_len → log_len - log < slice_index h 1 → (at : ℕ) → IsAlignedIn (arena h) (piece at log) → HasWordOut (arena h) (piece at log)
   none_where_full = none_free first log_len log_min h is.consistent is.nodes is.shortest
 
-pub out_seen : (first log_len log_min : ℕ) (h : List ℕ) (a : Arena) → arena_of first log_len log_min h ≡ a → (p : Piece) → IsOut a p → IsOut (arena_of first log_len log_min h) p
-out_seen first log_len log_min h a view p is_out = subst (λ x. IsOut x p) (sym view) is_out
+pub out_seen : (first log_len log_min : ℕ) (h : List ℕ) (a : Arena) → arena_of first log_len log_min h ≡ a → (p : Piece) → IsPieceOut a p → IsPieceOut (arena_of first log_len log_min h) p
+out_seen first log_len log_min h a view p is_out = subst (λ x. IsPieceOut x p) (sym view) is_out
 
 -- where nothing is out, the first range of a length has no word that is out
-pub none_where_empty : (a : Arena) (log : ℕ) → log ≤ a.log_len → a.out ≡ set.empty → ((at : ℕ) → IsPlaced a (piece at log) → HasWordOut a (piece at log)) → ⊥
+pub none_where_empty : (a : Arena) (log : ℕ) → log ≤ a.log_len → a.out ≡ set.empty → ((at : ℕ) → IsAlignedIn a (piece at log) → HasWordOut a (piece at log)) → ⊥
 none_where_empty a log most empty has_out =
     let length : 2 ^ log ≤ 2 ^ a.log_len = pow-le-pow_right {n = 2} (omega arith) most in
     let has = has_out a.first (0, (omega arith, omega arith)) in
     true≢false (sym has.1.1.1.0 ∙ ap (λ s. set.contains s has.1.1.0) empty ∙ set.contains-empty piece_cmp has.1.1.0)
 
 -- a piece of which no word is out isn't out
-pub not_out_of_free : (a : Arena) (p : Piece) → IsFree a p → ¬ IsOut a p
+pub not_out_of_free : (a : Arena) (p : Piece) → IsFree a p → ¬ IsPieceOut a p
 not_out_of_free a p free out =
     let positive = pow_pos p.log in
     free p.at (omega arith, omega arith) (p, (out, (omega arith, omega arith)))

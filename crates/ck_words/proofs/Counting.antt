@@ -2,7 +2,7 @@
 use Rattle.std.proofs.Common.{◌≡◌, ℕ, zero, suc, Bool, true, false, ◌⊎◌, inl, inr, ◌+◌, ◌-◌, ◌*◌, ◌^◌, ◌<◌, ◌≤◌, min, if◌then◌else◌, arith, refl, sym, ap, subst, ◌∙◌, true≢false}
 use Rattle.std.proofs.lemmas.Bool.{cases_eq}
 use Rattle.std.specs.FinSet as set
-use Rattle.ck_words.specs.Buddies.{Piece, piece_cmp, Arena, with_out, IsOut, Covers, IsFree, IsPlaced, IsApart, is_word_out, free_below, free_words}
+use Rattle.ck_words.specs.Buddies.{Piece, piece_cmp, Arena, with_pieces_out, IsPieceOut, PieceCovers, IsFree, IsAlignedIn, ArePiecesApart, is_word_out, free_below, free_words}
 use Rattle.ck_words.proofs.Members.{same_piece, same_test, same_members, out_insert, insert_itself, insert_keeps, out_remove, remove_keeps, word_out-from_test, test-from_word_out}
 use Rattle.ck_words.proofs.Words.{lt_or_ge}
 
@@ -42,7 +42,7 @@ module _ (a b : Arena) (same_first : b.first ≡ a.first) (start len : ℕ)
       ]
 
 -- a piece that is taken out takes its words from those that are free
-pub free_words-insert : (a : Arena) (p : Piece) → IsPlaced a p → IsFree a p → free_words a ≡ free_words (with_out a (set.insert a.out p)) + 2 ^ p.log
+pub free_words-insert : (a : Arena) (p : Piece) → IsAlignedIn a p → IsFree a p → free_words a ≡ free_words (with_pieces_out a (set.insert a.out p)) + 2 ^ p.log
 unfolding free_words
 free_words-insert a p place is_free =
     let start = place.0 * 2 ^ p.log in
@@ -52,7 +52,7 @@ free_words-insert a p place is_free =
     moved a b refl start (2 ^ p.log) outside free out (2 ^ a.log_len) ∙ ap (λ n. free_below b (2 ^ a.log_len) + n) all
   where
     b : Arena
-    b = with_out a (set.insert a.out p)
+    b = with_pieces_out a (set.insert a.out p)
 
     outside : (w : ℕ) → ¬ ((a.first + place.0 * 2 ^ p.log ≤ w) × (w < a.first + place.0 * 2 ^ p.log + 2 ^ p.log)) → is_word_out b w ≡ is_word_out a w
     outside w not_inside =
@@ -61,7 +61,7 @@ free_words-insert a p place is_free =
         (λ test. let has = word_out-from_test b w test in
         elim (out_insert a.out p has.0 has.1.0) [
           | inl same ↦
-              let covers : Covers p w = subst (λ q. Covers q w) same has.1.1 in
+              let covers : PieceCovers p w = subst (λ q. PieceCovers q w) same has.1.1 in
               absurd (not_inside (let low = covers.0 in omega arith, let high = covers.1 in omega arith))
           | inr was ↦ test-from_word_out a w (has.0, (was, has.1.1))
         ])
@@ -94,16 +94,16 @@ insert-remove s p is_out =
     ])
 
 -- no word of a piece that is given back is out
-pub free_after_remove : (a : Arena) (p : Piece) → IsApart a → IsOut a p → IsFree (with_out a (set.remove a.out p)) p
+pub free_after_remove : (a : Arena) (p : Piece) → ArePiecesApart a → IsPieceOut a p → IsFree (with_pieces_out a (set.remove a.out p)) p
 free_after_remove a p apart is_out w covers has =
     let kept = out_remove a.out p has.0 has.1.0 in
     kept.0 (apart.one w has.0 p kept.1 is_out has.1.1 covers)
 
 -- a piece that is given back adds its words to those that are free
-pub free_words-remove : (a : Arena) (p : Piece) → IsApart a → IsOut a p → free_words (with_out a (set.remove a.out p)) ≡ free_words a + 2 ^ p.log
+pub free_words-remove : (a : Arena) (p : Piece) → ArePiecesApart a → IsPieceOut a p → free_words (with_pieces_out a (set.remove a.out p)) ≡ free_words a + 2 ^ p.log
 free_words-remove a p apart is_out =
-    free_words-insert (with_out a (set.remove a.out p)) p (apart.placed p is_out).1.1 (free_after_remove a p apart is_out)
-    ∙ ap (λ s. free_words (with_out a s) + 2 ^ p.log) (insert-remove a.out p is_out)
+    free_words-insert (with_pieces_out a (set.remove a.out p)) p (apart.placed p is_out).1.1 (free_after_remove a p apart is_out)
+    ∙ ap (λ s. free_words (with_pieces_out a s) + 2 ^ p.log) (insert-remove a.out p is_out)
 
 -- where nothing is out all words are free
 pub free_words-empty : (a : Arena) → a.out ≡ set.empty → free_words a ≡ 2 ^ a.log_len

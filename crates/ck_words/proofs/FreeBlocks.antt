@@ -5,7 +5,7 @@ use Rattle.std.specs.Ordering.{nat_cmp, eq_by_cmp}
 use Rattle.std.specs.Cmp.{nat_cmp_total, Equal-is, eq_by_cmp_equiv}
 use Rattle.std.specs.FinSet as finset
 use Rattle.std.specs.FinSet.{nat_cmp-IsAntisymmetric}
-use Rattle.ck_words.specs.Blocks.{BlockArena, with_out, IsOut, IsBlock, IsApart, among, out_places, blocks_of, IsBlocksOf, AddsBlock, DropsBlock}
+use Rattle.ck_words.specs.Blocks.{BlockArena, with_blocks_out, IsBlockOut, IsBlock, AreBlocksApart, among, out_places, blocks_of, IsBlocksOf, AddsBlock, DropsBlock}
 use Rattle.ck_words.proofs.Members.{same_test, either, second_true, both, true_not, not_true}
 
 tie_exact : (x y : ℕ) → eq_by_cmp nat_cmp x y ≡ true → x ≡ y
@@ -59,15 +59,15 @@ module _ (numbers : List ℕ) (free first : ℕ) where
       cases _ refl
 
   -- what is out is what isn't among the free numbers
-  pub out_number : (at : ℕ) → IsOut (blocks_of first free numbers) at → (m : ℕ) × IsOutAt numbers free first (length numbers) at m
+  pub out_number : (at : ℕ) → IsBlockOut (blocks_of first free numbers) at → (m : ℕ) × IsOutAt numbers free first (length numbers) at m
   unfolding blocks_of
   out_number at is_out = listed (length numbers) at is_out
 
-  pub number_out : (at m : ℕ) → IsOutAt numbers free first (length numbers) at m → IsOut (blocks_of first free numbers) at
+  pub number_out : (at m : ℕ) → IsOutAt numbers free first (length numbers) at m → IsBlockOut (blocks_of first free numbers) at
   unfolding blocks_of
   number_out at m is = lists (length numbers) at m is
 
-  pub blocks_apart : IsApart (blocks_of first free numbers)
+  pub blocks_apart : AreBlocksApart (blocks_of first free numbers)
   unfolding blocks_of
   blocks_apart = record {
     placed = λ at is_out. let is = out_number at is_out in (is.0, (is.1.within, is.1.place));
@@ -84,7 +84,7 @@ module _ (numbers : List ℕ) (free first : ℕ) where
   }
 
   -- where no number is free each block is out
-  pub all_out : free ≡ 0 → (at : ℕ) → IsBlock (blocks_of first free numbers) at → IsOut (blocks_of first free numbers) at
+  pub all_out : free ≡ 0 → (at : ℕ) → IsBlock (blocks_of first free numbers) at → IsBlockOut (blocks_of first free numbers) at
   unfolding blocks_of
   all_out none at is_block = number_out at is_block.0 (record { within = is_block.1.0; place = is_block.1.1; taken = ap (λ k. among numbers k is_block.0) none })
 
@@ -122,14 +122,14 @@ module _ (first free : ℕ) (numbers : List ℕ) (is : IsBlocksOf first (suc fre
   unfolding blocks_of
   taken_placed = (slice_index numbers free, (taken_within, place))
 
-  pub taken_was_free : ¬ IsOut before at
+  pub taken_was_free : ¬ IsBlockOut before at
   taken_was_free is_out =
       let was = out_number numbers (suc free) first at is_out in
       let there = was.1.place in
       let same : slice_index numbers free ≡ was.0 = omega arith in
       true≢false (sym (eq-eqb (slice_index numbers free) was.0 same) ∙ first_false _ _ was.1.taken)
 
-  after_out : (q : ℕ) → IsOut (blocks_of first free numbers) q → finset.contains (finset.insert (before.out) at) q ≡ true
+  after_out : (q : ℕ) → IsBlockOut (blocks_of first free numbers) q → finset.contains (finset.insert (before.out) at) q ≡ true
   after_out q is_out =
       let now = out_number numbers free first q is_out in
       finset.contains-insert nat_cmp_total (before.out) at q
@@ -140,7 +140,7 @@ module _ (first free : ℕ) (numbers : List ℕ) (is : IsBlocksOf first (suc fre
         | inr ne ↦ second_true _ _ (number_out numbers (suc free) first q now.0 (record { within = now.1.within; place = now.1.place; taken = neither _ _ (ne_eqb _ _ ne) now.1.taken }))
       ])
 
-  out_after : (q : ℕ) → finset.contains (finset.insert (before.out) at) q ≡ true → IsOut (blocks_of first free numbers) q
+  out_after : (q : ℕ) → finset.contains (finset.insert (before.out) at) q ≡ true → IsBlockOut (blocks_of first free numbers) q
   out_after q h =
       elim (either _ _ (sym (finset.contains-insert nat_cmp_total (before.out) at q) ∙ h)) [
         | inl tie ↦ number_out numbers free first q (slice_index numbers free) (record { within = taken_within; place = tie_exact q at tie ∙ place; taken = taken_last })
@@ -150,9 +150,9 @@ module _ (first free : ℕ) (numbers : List ℕ) (is : IsBlocksOf first (suc fre
   taken_set : (blocks_of first free numbers).out ≡ finset.insert (before.out) at
   taken_set = finset.same_set nat_cmp_total nat_cmp-IsAntisymmetric _ _ (λ q. same_test _ _ (after_out q) (out_after q))
 
-  pub taken_out : blocks_of first free numbers ≡ with_out before (finset.insert (before.out) at)
+  pub taken_out : blocks_of first free numbers ≡ with_blocks_out before (finset.insert (before.out) at)
   unfolding blocks_of
-  taken_out = ap (with_out before) taken_set
+  taken_out = ap (with_blocks_out before) taken_set
 
   pub taken_is : IsBlocksOf first free numbers
   taken_is =
@@ -169,7 +169,7 @@ module _ (first free : ℕ) (numbers : List ℕ) (is : IsBlocksOf first (suc fre
       }
 
 -- a block that is given back
-module _ (first free : ℕ) (numbers : List ℕ) (is : IsBlocksOf first free numbers) (at : ℕ) (is_out : IsOut (blocks_of first free numbers) at) where
+module _ (first free : ℕ) (numbers : List ℕ) (is : IsBlocksOf first free numbers) (at : ℕ) (is_out : IsBlockOut (blocks_of first free numbers) at) where
   abbrev was : BlockArena
   was = blocks_of first free numbers
 
@@ -209,7 +209,7 @@ module _ (first free : ℕ) (numbers : List ℕ) (is : IsBlocksOf first free num
     among_written : (n : ℕ) → among written (suc free) n ≡ (nat_eq m n || among numbers free n)
     among_written n = λ i. nat_eq (last i) n || among-set numbers free free m n (omega arith) i
 
-    out_now : (q : ℕ) → IsOut (blocks_of first (suc free) written) q → finset.contains (finset.remove (was.out) at) q ≡ true
+    out_now : (q : ℕ) → IsBlockOut (blocks_of first (suc free) written) q → finset.contains (finset.remove (was.out) at) q ≡ true
     out_now q h =
         let now = out_number written (suc free) first q h in
         let parts = sym (among_written now.0) ∙ now.1.taken in
@@ -221,7 +221,7 @@ module _ (first free : ℕ) (numbers : List ℕ) (is : IsBlocksOf first free num
         ∙ (λ i. not (false_of _ (λ tie. there (tie_exact q at tie)) i) && finset.contains (was.out) q)
         ∙ number_out numbers free first q now.0 (record { within = subst (λ n. now.0 < n) long now.1.within; place = place_now; taken = second_false _ _ parts })
 
-    now_out : (q : ℕ) → finset.contains (finset.remove (was.out) at) q ≡ true → IsOut (blocks_of first (suc free) written) q
+    now_out : (q : ℕ) → finset.contains (finset.remove (was.out) at) q ≡ true → IsBlockOut (blocks_of first (suc free) written) q
     now_out q h =
         let parts = both _ _ (sym (finset.contains-remove nat_cmp_total (was.out) at q) ∙ h) in
         let before = out_number numbers free first q parts.1 in
@@ -234,7 +234,7 @@ module _ (first free : ℕ) (numbers : List ℕ) (is : IsBlocksOf first free num
     given_set : (blocks_of first (suc free) written).out ≡ finset.remove (was.out) at
     given_set = finset.same_set nat_cmp_total nat_cmp-IsAntisymmetric _ _ (λ q. same_test _ _ (out_now q) (now_out q))
 
-    pub given_back : blocks_of first (suc free) written ≡ with_out was (finset.remove (was.out) at)
+    pub given_back : blocks_of first (suc free) written ≡ with_blocks_out was (finset.remove (was.out) at)
     unfolding blocks_of
     given_back = λ i. record { first = first; count = long i; out = given_set i }
 
@@ -282,7 +282,7 @@ among_some numbers (suc k) i v less is =
 
 -- an arena of blocks of which all are free
 module _ (first count : ℕ) (numbers : List ℕ) (long : length numbers ≡ count) (falling : (i : ℕ) → i < count → slice_index numbers i + i + 1 ≡ count) where
-  none_out : (q : ℕ) → IsOut (blocks_of first count numbers) q → finset.contains (finset.empty {R = nat_cmp}) q ≡ true
+  none_out : (q : ℕ) → IsBlockOut (blocks_of first count numbers) q → finset.contains (finset.empty {R = nat_cmp}) q ≡ true
   none_out q is_out =
       let found = out_number numbers count first q is_out in
       let m = found.0 in
@@ -293,7 +293,7 @@ module _ (first count : ℕ) (numbers : List ℕ) (long : length numbers ≡ cou
       let value : slice_index numbers i ≡ m = let falls = falling i less in omega arith in
       absurd (true≢false (sym (among_some numbers count i m less value) ∙ found.1.taken))
 
-  nothing : (q : ℕ) → finset.contains (finset.empty {R = nat_cmp}) q ≡ true → IsOut (blocks_of first count numbers) q
+  nothing : (q : ℕ) → finset.contains (finset.empty {R = nat_cmp}) q ≡ true → IsBlockOut (blocks_of first count numbers) q
   nothing q h = absurd (true≢false (sym h ∙ finset.contains-empty nat_cmp q))
 
   empty : (blocks_of first count numbers).out ≡ finset.empty {R = nat_cmp}
@@ -312,7 +312,7 @@ module _ (first count : ℕ) (numbers : List ℕ) (long : length numbers ≡ cou
     counted = let none = ap finset.len empty ∙ finset.len-empty nat_cmp in omega (arith, none, long);
   }
 
-pub adds : (a : BlockArena) (at : ℕ) → AddsBlock a (with_out a (finset.insert a.out at)) at
+pub adds : (a : BlockArena) (at : ℕ) → AddsBlock a (with_blocks_out a (finset.insert a.out at)) at
 adds a at q = (
   λ h. elim (either _ _ (sym (finset.contains-insert nat_cmp_total a.out at q) ∙ h)) [ inl tie ↦ inl (tie_exact q at tie) | inr was ↦ inr was ],
   λ h. finset.contains-insert nat_cmp_total a.out at q
@@ -322,7 +322,7 @@ adds a at q = (
       ]),
 )
 
-pub drops : (a : BlockArena) (at : ℕ) → DropsBlock a (with_out a (finset.remove a.out at)) at
+pub drops : (a : BlockArena) (at : ℕ) → DropsBlock a (with_blocks_out a (finset.remove a.out at)) at
 drops a at q = (
   λ h.
       let parts = both _ _ (sym (finset.contains-remove nat_cmp_total a.out at q) ∙ h) in

@@ -5,7 +5,7 @@ use Rattle.std.proofs.lemmas.Bool.Decides.{nat_tests}
 use Rattle.std.proofs.lemmas.Nat.{pow_pos}
 use Rattle.std.proofs.Math.Nat.{pow-suc, mul-le-mul_right, le_of_mul-le-mul_right}
 use Rattle.ck_words.specs.Tree.{joined_halvings, IsConsistent}
-use Rattle.ck_words.specs.Buddies.{Piece, piece, Arena, HasWordOut, IsPlaced, arena_of}
+use Rattle.ck_words.specs.Buddies.{Piece, piece, Arena, HasWordOut, IsAlignedIn, arena_of}
 use Rattle.ck_words.proofs.Pieces.{IsRangeOf, range_of_place, place_of_range, row_size, node_out}
 use Rattle.ck_words.proofs.Words.{in_tree, even}
 
@@ -158,7 +158,7 @@ module _ (first log_len log_min : ℕ) where
         ]
 
     -- where the root has no free range of the length, each range of that length has a word that is out
-    pub none_free : (log : ℕ) → log_min ≤ log → log ≤ log_len → log_len - log < slice_index h 1 → (at : ℕ) → IsPlaced arena (piece at log) → HasWordOut arena (piece at log)
+    pub none_free : (log : ℕ) → log_min ≤ log → log ≤ log_len → log_len - log < slice_index h 1 → (at : ℕ) → IsAlignedIn arena (piece at log) → HasWordOut arena (piece at log)
     unfolding arena_of
     none_free log least most full at is_placed =
         let n = is_placed.0 in

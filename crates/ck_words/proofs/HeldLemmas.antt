@@ -4,16 +4,16 @@ use Rattle.std.proofs.lemmas.List.{get_or_append_left, get_or_default}
 use Rattle.std.proofs.Math.Seq.{get_or-append_seam}
 use Rattle.std.proofs.lemmas.List.Edits.{get_or-remove_below, get_or-remove_above, length-remove}
 use Rattle.std.specs.List.{remove}
-use Rattle.ck_words.specs.Buddies.{Piece, piece, Arena, IsOut, AddsPiece, DropsPiece}
-use Rattle.ck_words.specs.Held.{held_at, Holds}
+use Rattle.ck_words.specs.Buddies.{Piece, piece, Arena, IsPieceOut, AddsPiece, DropsPiece}
+use Rattle.ck_words.specs.Held.{held_at, HoldsPieces}
 use Rattle.ck_words.proofs.Words.{lt_or_ge}
 
 -- the pair at an index is the piece there
 pub held_at_is : (held : List (ℕ × ℕ)) (i : ℕ) (x : ℕ × ℕ) → i < length held → x ≡ get_or held i x → held_at held i ≡ piece x.0 x.1
 held_at_is held i x within is = ap (λ (y : ℕ × ℕ). piece y.0 y.1) (get_or_default held i (0, 0) x within ∙ sym is)
 
-module _ (a b : Arena) (held : List (ℕ × ℕ)) (holds : Holds a held) where
-  module _ (at log : ℕ) (is_new : ¬ IsOut a (piece at log)) (adds : AddsPiece a b (piece at log)) where
+module _ (a b : Arena) (held : List (ℕ × ℕ)) (holds : HoldsPieces a held) where
+  module _ (at log : ℕ) (is_new : ¬ IsPieceOut a (piece at log)) (adds : AddsPiece a b (piece at log)) where
     abbrev more : List (ℕ × ℕ)
     more = held ++ (at, log) ∷ []
 
@@ -27,13 +27,13 @@ module _ (a b : Arena) (held : List (ℕ × ℕ)) (holds : Holds a held) where
     new i is = ap (λ (x : ℕ × ℕ). piece x.0 x.1) (ap (λ k. get_or more k (0, 0)) is ∙ get_or-append_seam held (at, log) [] (0, 0))
 
     differ : (i j : ℕ) → i < length held → j ≡ length held → held_at more i ≢ held_at more j
-    differ i j less is same = is_new (subst (IsOut a) (sym (old i less) ∙ same ∙ new j is) (holds.out i less))
+    differ i j less is same = is_new (subst (IsPieceOut a) (sym (old i less) ∙ same ∙ new j is) (holds.out i less))
 
-    pub holds_more : Holds b more
+    pub holds_more : HoldsPieces b more
     holds_more = record {
       out = λ i within. elim (lt_or_ge i (length held)) [
-        | inl less ↦ subst (IsOut b) (sym (old i less)) ((adds (held_at held i)).1 (inr (holds.out i less)))
-        | inr last ↦ subst (IsOut b) (sym (new i (omega (arith, long, within, last)))) ((adds (piece at log)).1 (inl refl))
+        | inl less ↦ subst (IsPieceOut b) (sym (old i less)) ((adds (held_at held i)).1 (inr (holds.out i less)))
+        | inr last ↦ subst (IsPieceOut b) (sym (new i (omega (arith, long, within, last)))) ((adds (piece at log)).1 (inl refl))
       ];
       once = λ i j within_i within_j ne. elim (lt_or_ge i (length held)) [
         | inl less_i ↦ elim (lt_or_ge j (length held)) [
@@ -69,11 +69,11 @@ module _ (a b : Arena) (held : List (ℕ × ℕ)) (holds : Holds a held) where
           | inr x ↦ elim was'.moved [ inl y ↦ omega (arith, x.0, x.1, y.0, y.1, same) | inr y ↦ ne (omega (arith, x.1, y.1, same)) ]
         ]
 
-    pub holds_less : Holds b (remove held i)
+    pub holds_less : HoldsPieces b (remove held i)
     holds_less = record {
       out = λ k less.
           let was = was_at k less in
-          subst (IsOut b) (sym was.1.same) ((drops (held_at held was.0)).1 (holds.once was.0 i was.1.inside within (other k was.0 was.1), holds.out was.0 was.1.inside));
+          subst (IsPieceOut b) (sym was.1.same) ((drops (held_at held was.0)).1 (holds.once was.0 i was.1.inside within (other k was.0 was.1), holds.out was.0 was.1.inside));
       once = λ k l less_k less_l ne same.
           let was_k = was_at k less_k in
           let was_l = was_at l less_l in

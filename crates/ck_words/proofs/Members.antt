@@ -9,7 +9,7 @@ use Rattle.std.specs.Cmp.Lexicographic.{on_texts}
 use Rattle.std.specs.List.{Contains}
 use Rattle.std.specs.FinSet as set
 use Rattle.std.specs.FinSet.{IsAntisymmetric, nat_cmp-IsAntisymmetric, slice_cmp-IsAntisymmetric}
-use Rattle.ck_words.specs.Buddies.{Piece, piece_cmp, Arena, IsWordOut, is_word_out, with_out, AddsPiece, DropsPiece}
+use Rattle.ck_words.specs.Buddies.{Piece, piece_cmp, Arena, IsWordOut, is_word_out, with_pieces_out, AddsPiece, DropsPiece}
 
 pub same_piece : (p q : Piece) → p.at ≡ q.at → p.log ≡ q.log → p ≡ q
 same_piece p q at log = λ i. record { at = at i; log = log i }
@@ -103,7 +103,7 @@ test-from_word_out a w h =
     let contained = Contains-from_any tie_exact h.0 (set.items a.out) (sym (set.contains-items a.out h.0) ∙ h.1.0) in
     list_any-from_Any (λ p. nat_le p.at w && nat_lt w (p.at + 2 ^ p.log)) (set.items a.out) (contained.0, h.0, contained.1, contained.2, test-from_covers h.0.at (2 ^ h.0.log) w h.1.1.0 h.1.1.1)
 
-pub adds : (a : Arena) (p : Piece) → AddsPiece a (with_out a (set.insert a.out p)) p
+pub adds : (a : Arena) (p : Piece) → AddsPiece a (with_pieces_out a (set.insert a.out p)) p
 adds a p q = (
   out_insert a.out p q,
   λ h. elim h [
@@ -112,5 +112,5 @@ adds a p q = (
   ],
 )
 
-pub drops : (a : Arena) (p : Piece) → DropsPiece a (with_out a (set.remove a.out p)) p
+pub drops : (a : Arena) (p : Piece) → DropsPiece a (with_pieces_out a (set.remove a.out p)) p
 drops a p q = (out_remove a.out p q, λ h. remove_keeps a.out p q h.0 h.1)

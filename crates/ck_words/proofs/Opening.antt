@@ -6,7 +6,7 @@ use Rattle.std.proofs.Math.ListN.{replicate, get_or-eq_default}
 use Rattle.std.proofs.lemmas.List.{get_or-replicate, length-replicate}
 use Rattle.std.specs.FinSet as set
 use Rattle.ck_words.specs.Tree.{joined_halvings, IsConsistent}
-use Rattle.ck_words.specs.Buddies.{Piece, piece_cmp, with_out, IsOut, arena_of, IsArenaOf}
+use Rattle.ck_words.specs.Buddies.{Piece, piece_cmp, with_pieces_out, IsPieceOut, arena_of, IsArenaOf}
 use Rattle.ck_words.proofs.Members.{same_members}
 use Rattle.ck_words.proofs.Pieces.{out_node}
 use Rattle.ck_words.proofs.Words.{lt_or_ge}
@@ -42,13 +42,13 @@ module _ (h : List ℕ) (zeros : (i : ℕ) → slice_index h i ≡ 0) where
   }
 
   module _ (first log_len log_min : ℕ) (shortest : log_min ≤ log_len) where
-    none_out : (p : Piece) → IsOut (arena_of first log_len log_min h) p → set.contains (set.empty {R = piece_cmp}) p ≡ true
+    none_out : (p : Piece) → IsPieceOut (arena_of first log_len log_min h) p → set.contains (set.empty {R = piece_cmp}) p ≡ true
     none_out p is_out =
         let at = out_node h first log_len log_min p is_out shortest in
         let out = at.1.out in
         absurd (omega (arith, zeros at.0, out))
 
-    nothing : (p : Piece) → set.contains (set.empty {R = piece_cmp}) p ≡ true → IsOut (arena_of first log_len log_min h) p
+    nothing : (p : Piece) → set.contains (set.empty {R = piece_cmp}) p ≡ true → IsPieceOut (arena_of first log_len log_min h) p
     nothing p in_empty = absurd (true≢false (sym in_empty ∙ set.contains-empty piece_cmp p))
 
     empty : (arena_of first log_len log_min h).out ≡ set.empty {R = piece_cmp}
@@ -56,7 +56,7 @@ module _ (h : List ℕ) (zeros : (i : ℕ) → slice_index h i ≡ 0) where
 
     pub opened : arena_of first log_len log_min h ≡ record { first = first; log_len = log_len; log_min = log_min; out = set.empty }
     unfolding arena_of
-    opened = ap (with_out (arena_of first log_len log_min h)) empty
+    opened = ap (with_pieces_out (arena_of first log_len log_min h)) empty
 
     pub opening : (free : ℕ) → 3 ≤ log_min → log_len ≤ 24 → first ≤ 2 ^ 32 → length h ≡ 2 * 2 ^ (log_len - log_min) → free ≡ 2 ^ log_len → IsArenaOf first log_len log_min free h
     unfolding arena_of

@@ -8,7 +8,7 @@ use Rattle.std.proofs.Math.Nat.{pow-suc, mul-le-mul_right, mul-le-mul_left, le_o
 use Rattle.std.specs.List.{Contains}
 use Rattle.std.specs.FinSet as set
 use Rattle.ck_words.specs.Tree.{TakesOut, PutsBack}
-use Rattle.ck_words.specs.Buddies.{Piece, piece, piece_cmp, with_out, IsOut, out_in_row, out_in_rows, arena_of}
+use Rattle.ck_words.specs.Buddies.{Piece, piece, piece_cmp, with_pieces_out, IsPieceOut, out_in_row, out_in_rows, arena_of}
 use Rattle.ck_words.proofs.Members.{same_piece, same_members, listed, lists, out_insert, insert_itself, insert_keeps, out_remove, remove_keeps}
 
 -- the piece is the range of the node
@@ -155,11 +155,11 @@ module _ (h : List ℕ) (first log_len log_min : ℕ) where
       ]
 
   -- what is out of the arena is what is out of the tree
-  pub out_node : (p : Piece) → IsOut (arena_of first log_len log_min h) p → log_min ≤ log_len → (node : ℕ) × IsNodeOut p node
+  pub out_node : (p : Piece) → IsPieceOut (arena_of first log_len log_min h) p → log_min ≤ log_len → (node : ℕ) × IsNodeOut p node
   unfolding arena_of
   out_node p is_out shortest = rows_out (suc log_len - log_min) (omega arith) p (listed _ p is_out)
 
-  pub node_out : (p : Piece) (node : ℕ) → IsNodeOut p node → IsOut (arena_of first log_len log_min h) p
+  pub node_out : (p : Piece) (node : ℕ) → IsNodeOut p node → IsPieceOut (arena_of first log_len log_min h) p
   unfolding arena_of
   node_out p node is =
       let most = is.range.most in
@@ -167,9 +167,9 @@ module _ (h : List ℕ) (first log_len log_min : ℕ) where
       lists _ p (out_rows (suc log_len - log_min) p (omega arith) node is)
 
 -- a node that wasn't out is now
-pub out_more : (old new : List ℕ) (first log_len log_min : ℕ) (p : Piece) (node : ℕ) → log_min ≤ log_len → IsRangeOf first log_len log_min p node → TakesOut old new node → arena_of first log_len log_min new ≡ with_out (arena_of first log_len log_min old) (set.insert ((arena_of first log_len log_min old).out) p)
+pub out_more : (old new : List ℕ) (first log_len log_min : ℕ) (p : Piece) (node : ℕ) → log_min ≤ log_len → IsRangeOf first log_len log_min p node → TakesOut old new node → arena_of first log_len log_min new ≡ with_pieces_out (arena_of first log_len log_min old) (set.insert ((arena_of first log_len log_min old).out) p)
 unfolding arena_of
-out_more old new first log_len log_min p node shortest range change = ap (with_out (arena_of first log_len log_min old)) (same_members _ _ to from)
+out_more old new first log_len log_min p node shortest range change = ap (with_pieces_out (arena_of first log_len log_min old)) (same_members _ _ to from)
   where
     set_of : List ℕ → set.FinSet piece_cmp
     set_of h = (arena_of first log_len log_min h).out
@@ -190,9 +190,9 @@ out_more old new first log_len log_min p node shortest range change = ap (with_o
         ]
 
 -- a node that was out isn't now
-pub out_less : (old new : List ℕ) (first log_len log_min : ℕ) (p : Piece) (node : ℕ) → log_min ≤ log_len → IsRangeOf first log_len log_min p node → PutsBack old new node → arena_of first log_len log_min new ≡ with_out (arena_of first log_len log_min old) (set.remove ((arena_of first log_len log_min old).out) p)
+pub out_less : (old new : List ℕ) (first log_len log_min : ℕ) (p : Piece) (node : ℕ) → log_min ≤ log_len → IsRangeOf first log_len log_min p node → PutsBack old new node → arena_of first log_len log_min new ≡ with_pieces_out (arena_of first log_len log_min old) (set.remove ((arena_of first log_len log_min old).out) p)
 unfolding arena_of
-out_less old new first log_len log_min p node shortest range change = ap (with_out (arena_of first log_len log_min old)) (same_members _ _ to from)
+out_less old new first log_len log_min p node shortest range change = ap (with_pieces_out (arena_of first log_len log_min old)) (same_members _ _ to from)
   where
     set_of : List ℕ → set.FinSet piece_cmp
     set_of h = (arena_of first log_len log_min h).out

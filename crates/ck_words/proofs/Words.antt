@@ -4,7 +4,7 @@ use Rattle.std.proofs.lemmas.Bool.{cases_eq}
 use Rattle.std.proofs.lemmas.Nat.{pow_pos}
 use Rattle.std.proofs.Math.Nat.{mul-le-mul_right, pow-le-pow_right}
 use Rattle.ck_words.specs.Tree.{IsConsistent, NoneOutFrom, ancestor}
-use Rattle.ck_words.specs.Buddies.{Piece, Arena, IsOut, Covers, IsFree, IsApart, arena_of}
+use Rattle.ck_words.specs.Buddies.{Piece, Arena, IsPieceOut, PieceCovers, IsFree, ArePiecesApart, arena_of}
 use Rattle.ck_words.proofs.Ancestors.{ancestor-ancestor, ancestor-is, whole_below, none_below_out}
 use Rattle.ck_words.proofs.Pieces.{IsRangeOf, place_of_range, row_size, one_piece, out_node}
 
@@ -19,7 +19,7 @@ module _ (first log_len log_min : ℕ) where
   abbrev leaf_of : ℕ → ℕ
   leaf_of w = w + 2 ^ log_len - first
 
-  covered : (p : Piece) (node w : ℕ) → range_of p node → Covers p w → ancestor p.log (leaf_of w) ≡ node
+  covered : (p : Piece) (node w : ℕ) → range_of p node → PieceCovers p w → ancestor p.log (leaf_of w) ≡ node
   covered p node w range covers =
       let place = range.place in
       let from = range.from in
@@ -28,7 +28,7 @@ module _ (first log_len log_min : ℕ) where
       ancestor-is p.log (leaf_of w) node (omega arith) (omega arith)
 
   -- of two pieces with a word in common the longer one's node is above the other's
-  chain : (p q : Piece) (i j w : ℕ) → range_of p i → range_of q j → Covers p w → Covers q w → p.log ≤ q.log → ancestor (q.log - p.log) i ≡ j
+  chain : (p q : Piece) (i j w : ℕ) → range_of p i → range_of q j → PieceCovers p w → PieceCovers q w → p.log ≤ q.log → ancestor (q.log - p.log) i ≡ j
   chain p q i j w range_p range_q covers_p covers_q shorter =
       let sum : p.log + (q.log - p.log) ≡ q.log = omega arith in
       ap (ancestor (q.log - p.log)) (sym (covered p i w range_p covers_p))
@@ -62,7 +62,7 @@ module _ (first log_len log_min : ℕ) where
         let rows : 2 ^ (log_len - p.log) ≤ 2 ^ (log_len - log_min) = pow-le-pow_right {n = 2} (omega arith) (omega arith) in
         (omega arith, omega arith)
 
-    longer : (p q : Piece) (i j w : ℕ) → range_of p i → range_of q j → Covers p w → Covers q w → p.log < q.log → slice_index h i ≡ 26 → slice_index h j ≢ 26
+    longer : (p q : Piece) (i j w : ℕ) → range_of p i → range_of q j → PieceCovers p w → PieceCovers q w → p.log < q.log → slice_index h i ≡ 26 → slice_index h j ≢ 26
     longer p q i j w range_p range_q covers_p covers_q shorter out_i out_j =
         let above : ancestor (q.log - p.log) i ≡ j = chain p q i j w range_p range_q covers_p covers_q (omega arith) in
         let up : q.log - p.log ≡ suc (q.log - p.log - 1) = omega arith in
@@ -70,7 +70,7 @@ module _ (first log_len log_min : ℕ) where
         none_below_out h consistent even (q.log - p.log - 1) i (subst (λ n. 1 ≤ n) (sym above') (in_tree q j range_q).0) (in_tree p i range_p).1 (ap (slice_index h) above' ∙ out_j) out_i
 
     -- no word is in two pieces that are out
-    one : (w : ℕ) (p q : Piece) → IsOut arena p → IsOut arena q → Covers p w → Covers q w → p ≡ q
+    one : (w : ℕ) (p q : Piece) → IsPieceOut arena p → IsPieceOut arena q → PieceCovers p w → PieceCovers q w → p ≡ q
     one w p q out_p out_q covers_p covers_q =
         let at_p = out_node h first log_len log_min p out_p shortest in
         let at_q = out_node h first log_len log_min q out_q shortest in
@@ -80,7 +80,7 @@ module _ (first log_len log_min : ℕ) where
         let same : at_p.0 ≡ at_q.0 = sym (covered p at_p.0 w at_p.1.range covers_p) ∙ ap (λ n. ancestor n (leaf_of w)) log ∙ covered q at_q.0 w at_q.1.range covers_q in
         one_piece first log_len log_min p q at_q.0 (subst (range_of p) same at_p.1.range) at_q.1.range
 
-    pub apart : IsApart arena
+    pub apart : ArePiecesApart arena
     unfolding arena_of
     apart = record {
       placed = λ p out. let at = out_node h first log_len log_min p out shortest in (at.1.range.least, (at.1.range.most, placed p at.0 at.1.range));

@@ -21,33 +21,33 @@ block_arena_code =
     (λ _. refl)
 
 -- the arena with these blocks out, and no others
-abbrev pub with_out : BlockArena → set.FinSet nat_cmp → BlockArena
-with_out a out = record a { out = out }
+abbrev pub with_blocks_out : BlockArena → set.FinSet nat_cmp → BlockArena
+with_blocks_out a out = record a { out = out }
 
 -- the block at the place is out
-abbrev pub IsOut : BlockArena → ℕ → Type 0
-IsOut a at = set.contains a.out at ≡ true
+abbrev pub IsBlockOut : BlockArena → ℕ → Type 0
+IsBlockOut a at = set.contains a.out at ≡ true
 
 -- the place is that of a block of the arena
 abbrev pub IsBlock : BlockArena → ℕ → Type 0
 IsBlock a at = (n : ℕ) × ((n < a.count) × (at ≡ a.first + 8 * n))
 
 -- the word is one of the block's
-abbrev pub Covers : ℕ → ℕ → Type 0
-Covers at w = (at ≤ w) × (w < at + 8)
+abbrev pub BlockCovers : ℕ → ℕ → Type 0
+BlockCovers at w = (at ≤ w) × (w < at + 8)
 
 -- the blocks that are out are of the arena's, and no word is in two of them
-pub record IsApart (a : BlockArena) : Type 0 where
-  pub placed : (at : ℕ) → IsOut a at → IsBlock a at
-  pub one : (w at other : ℕ) → IsOut a at → IsOut a other → Covers at w → Covers other w → at ≡ other
+pub record AreBlocksApart (a : BlockArena) : Type 0 where
+  pub placed : (at : ℕ) → IsBlockOut a at → IsBlock a at
+  pub one : (w at other : ℕ) → IsBlockOut a at → IsBlockOut a other → BlockCovers at w → BlockCovers other w → at ≡ other
 
 -- a block is out of the new arena exactly where it is this one or was out of the old one
 abbrev pub AddsBlock : BlockArena → BlockArena → ℕ → Type 0
-AddsBlock old new at = (q : ℕ) → IsOut new q ↔ ((q ≡ at) ⊎ IsOut old q)
+AddsBlock old new at = (q : ℕ) → IsBlockOut new q ↔ ((q ≡ at) ⊎ IsBlockOut old q)
 
 -- a block is out of the new arena exactly where it isn't this one and was out of the old one
 abbrev pub DropsBlock : BlockArena → BlockArena → ℕ → Type 0
-DropsBlock old new at = (q : ℕ) → IsOut new q ↔ ((q ≢ at) × IsOut old q)
+DropsBlock old new at = (q : ℕ) → IsBlockOut new q ↔ ((q ≢ at) × IsBlockOut old q)
 
 -- whether the number is one of the first k numbers
 abbrev pub among : List ℕ → ℕ → ℕ → Bool

@@ -43,45 +43,45 @@ arena_code =
     (λ _. refl)
 
 -- the arena with these pieces out, and no others
-abbrev pub with_out : Arena → set.FinSet piece_cmp → Arena
-with_out a out = record a { out = out }
+abbrev pub with_pieces_out : Arena → set.FinSet piece_cmp → Arena
+with_pieces_out a out = record a { out = out }
 
 -- the piece is out
-abbrev pub IsOut : Arena → Piece → Type 0
-IsOut a p = set.contains a.out p ≡ true
+abbrev pub IsPieceOut : Arena → Piece → Type 0
+IsPieceOut a p = set.contains a.out p ≡ true
 
 -- the word is one of the piece's
-abbrev pub Covers : Piece → ℕ → Type 0
-Covers p w = (p.at ≤ w) × (w < p.at + 2 ^ p.log)
+abbrev pub PieceCovers : Piece → ℕ → Type 0
+PieceCovers p w = (p.at ≤ w) × (w < p.at + 2 ^ p.log)
 
 -- the word is in a piece that is out
 abbrev pub IsWordOut : Arena → ℕ → Type 0
-IsWordOut a w = (p : Piece) × (IsOut a p × Covers p w)
+IsWordOut a w = (p : Piece) × (IsPieceOut a p × PieceCovers p w)
 
 -- some word of the piece is out
 abbrev pub HasWordOut : Arena → Piece → Type 0
-HasWordOut a p = (w : ℕ) × (Covers p w × IsWordOut a w)
+HasWordOut a p = (w : ℕ) × (PieceCovers p w × IsWordOut a w)
 
 -- no word of the piece is out
 abbrev pub IsFree : Arena → Piece → Type 0
-IsFree a p = (w : ℕ) → Covers p w → ¬ IsWordOut a w
+IsFree a p = (w : ℕ) → PieceCovers p w → ¬ IsWordOut a w
 
 -- the piece lies within the arena, and its distance from the arena's start is a multiple of its length
-abbrev pub IsPlaced : Arena → Piece → Type 0
-IsPlaced a p = (n : ℕ) × ((p.at ≡ a.first + n * 2 ^ p.log) × (p.at + 2 ^ p.log ≤ a.first + 2 ^ a.log_len))
+abbrev pub IsAlignedIn : Arena → Piece → Type 0
+IsAlignedIn a p = (n : ℕ) × ((p.at ≡ a.first + n * 2 ^ p.log) × (p.at + 2 ^ p.log ≤ a.first + 2 ^ a.log_len))
 
 -- the pieces that are out are of the arena's, and no word is in two of them
-pub record IsApart (a : Arena) : Type 0 where
-  pub placed : (p : Piece) → IsOut a p → (a.log_min ≤ p.log) × ((p.log ≤ a.log_len) × IsPlaced a p)
-  pub one : (w : ℕ) (p q : Piece) → IsOut a p → IsOut a q → Covers p w → Covers q w → p ≡ q
+pub record ArePiecesApart (a : Arena) : Type 0 where
+  pub placed : (p : Piece) → IsPieceOut a p → (a.log_min ≤ p.log) × ((p.log ≤ a.log_len) × IsAlignedIn a p)
+  pub one : (w : ℕ) (p q : Piece) → IsPieceOut a p → IsPieceOut a q → PieceCovers p w → PieceCovers q w → p ≡ q
 
 -- a piece is out of the new arena exactly where it is this one or was out of the old one
 abbrev pub AddsPiece : Arena → Arena → Piece → Type 0
-AddsPiece old new p = (q : Piece) → IsOut new q ↔ ((q ≡ p) ⊎ IsOut old q)
+AddsPiece old new p = (q : Piece) → IsPieceOut new q ↔ ((q ≡ p) ⊎ IsPieceOut old q)
 
 -- a piece is out of the new arena exactly where it isn't this one and was out of the old one
 abbrev pub DropsPiece : Arena → Arena → Piece → Type 0
-DropsPiece old new p = (q : Piece) → IsOut new q ↔ ((q ≢ p) × IsOut old q)
+DropsPiece old new p = (q : Piece) → IsPieceOut new q ↔ ((q ≢ p) × IsPieceOut old q)
 
 -- whether the word is in a piece that is out
 abbrev pub is_word_out : Arena → ℕ → Bool

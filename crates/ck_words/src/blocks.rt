@@ -1,7 +1,7 @@
 //! Blocks of 8 words from one arena.
 ghost use Rattle.std.specs.Prelude.{◌≡◌, ℕ, ◌+◌, ◌-◌, ◌*◌, ◌/◌, ◌^◌, ◌<◌, ◌≤◌, ◌↔◌, IfOk, IfSome, IfNone, IsSome, IsNone, slice_index, length};
 ghost use Rattle.std.specs.FinSet as set;
-ghost use Rattle.ck_words.specs.Blocks.{BlockArena, with_out, IsOut, AddsBlock, DropsBlock, IsBlock, IsApart};
+ghost use Rattle.ck_words.specs.Blocks.{BlockArena, with_blocks_out, IsBlockOut, AddsBlock, DropsBlock, IsBlock, AreBlocksApart};
 
 use std::alloc::{AllocError, Global};
 use std::marker::Model;
@@ -49,15 +49,15 @@ impl Blocks {
     /// Takes a block out, and gives the place of its first word. `None` where all blocks are out.
     pub fn take(&mut self) -> Option<u64>
         ensures placed { IfSome result (IsBlock self.old) }
-        ensures was_free { IfSome result (λ at. ¬ IsOut self.old at) }
-        ensures is_out { IfSome result (IsOut self.new) }
+        ensures was_free { IfSome result (λ at. ¬ IsBlockOut self.old at) }
+        ensures is_out { IfSome result (IsBlockOut self.new) }
         ensures adds { IfSome result (AddsBlock self.old self.new) }
-        ensures after { IfSome result (λ at. self.new ≡ with_out self.old (set.insert self.old.out at)) }
+        ensures after { IfSome result (λ at. self.new ≡ with_blocks_out self.old (set.insert self.old.out at)) }
 
         // None comes exactly where no block is free.
-        ensures none { IsNone result ↔ ((at : ℕ) → IsBlock self.old at → IsOut self.old at) }
+        ensures none { IsNone result ↔ ((at : ℕ) → IsBlock self.old at → IsBlockOut self.old at) }
         ensures unchanged { IfNone result (self.new ≡ self.old) }
-        ensures apart { IsApart self.new }
+        ensures apart { AreBlocksApart self.new }
     {
         if self.free == 0 {
             return None;
@@ -68,10 +68,10 @@ impl Blocks {
 
     /// Takes back the block at `at`, which is out.
     pub fn give(&mut self, at: u64)
-        requires { IsOut self.old at }
+        requires { IsBlockOut self.old at }
         ensures drops { DropsBlock self.old self.new at }
-        ensures after { self.new ≡ with_out self.old (set.remove self.old.out at) }
-        ensures apart { IsApart self.new }
+        ensures after { self.new ≡ with_blocks_out self.old (set.remove self.old.out at) }
+        ensures apart { AreBlocksApart self.new }
     {
         self.numbers[self.free] = ((at - self.first) / BLOCK_WORDS) as u32;
         self.free += 1;
@@ -80,7 +80,7 @@ impl Blocks {
     /// The number of blocks that are free.
     pub fn free(&self) -> u64
         ensures count { result + set.len self.now.out ≡ self.now.count }
-        ensures apart { IsApart self.now }
+        ensures apart { AreBlocksApart self.now }
     {
         self.free as u64
     }

@@ -1,7 +1,7 @@
 //! Pieces of a power of two words from one arena, as the binary buddy system hands them out.
 ghost use Rattle.std.specs.Prelude.{◌≡◌, ℕ, ◌+◌, ◌-◌, ◌*◌, ◌/◌, ◌^◌, ◌<◌, ◌≤◌, ◌↔◌, IfOk, IfSome, IfNone, IsSome, IsNone, slice_index, length};
 ghost use Rattle.std.specs.FinSet as set;
-ghost use Rattle.ck_words.specs.Buddies.{Arena, Piece, piece, with_out, IsOut, AddsPiece, DropsPiece, IsPlaced, IsFree, HasWordOut, IsApart, free_words};
+ghost use Rattle.ck_words.specs.Buddies.{Arena, Piece, piece, with_pieces_out, IsPieceOut, AddsPiece, DropsPiece, IsAlignedIn, IsFree, HasWordOut, ArePiecesApart, free_words};
 
 use crate::tree::{descend, put_back, take_out};
 use std::alloc::{AllocError, Global};
@@ -88,18 +88,18 @@ impl Buddies {
     pub fn take(&mut self, log: u64) -> Option<u64>
         requires least { self.old.log_min ≤ log }
         requires most { log ≤ self.old.log_len }
-        ensures placed { IfSome result (λ at. IsPlaced self.old (piece at log)) }
+        ensures placed { IfSome result (λ at. IsAlignedIn self.old (piece at log)) }
         ensures was_free { IfSome result (λ at. IsFree self.old (piece at log)) }
-        ensures is_new { IfSome result (λ at. ¬ IsOut self.old (piece at log)) }
-        ensures is_out { IfSome result (λ at. IsOut self.new (piece at log)) }
+        ensures is_new { IfSome result (λ at. ¬ IsPieceOut self.old (piece at log)) }
+        ensures is_out { IfSome result (λ at. IsPieceOut self.new (piece at log)) }
         ensures adds { IfSome result (λ at. AddsPiece self.old self.new (piece at log)) }
-        ensures after { IfSome result (λ at. self.new ≡ with_out self.old (set.insert self.old.out (piece at log))) }
+        ensures after { IfSome result (λ at. self.new ≡ with_pieces_out self.old (set.insert self.old.out (piece at log))) }
 
         // None comes exactly where each range of that length has a word that is out.
-        ensures none { IsNone result ↔ ((at : ℕ) → IsPlaced self.old (piece at log) → HasWordOut self.old (piece at log)) }
+        ensures none { IsNone result ↔ ((at : ℕ) → IsAlignedIn self.old (piece at log) → HasWordOut self.old (piece at log)) }
         ensures unchanged { IfNone result (self.new ≡ self.old) }
         ensures whole { self.old.out ≡ set.empty → IsSome result }
-        ensures apart { IsApart self.new }
+        ensures apart { ArePiecesApart self.new }
     {
         let depth = self.log_len - log;
         if u64::from(self.halvings[1]) > depth {
@@ -114,10 +114,10 @@ impl Buddies {
     /// Takes back the piece of `2 ^ log` words at `at`, which is out. It is merged with its buddy,
     /// and so on, as long as the buddy is free whole.
     pub fn give(&mut self, at: u64, log: u64)
-        requires { IsOut self.old (piece at log) }
+        requires { IsPieceOut self.old (piece at log) }
         ensures drops { DropsPiece self.old self.new (piece at log) }
-        ensures after { self.new ≡ with_out self.old (set.remove self.old.out (piece at log)) }
-        ensures apart { IsApart self.new }
+        ensures after { self.new ≡ with_pieces_out self.old (set.remove self.old.out (piece at log)) }
+        ensures apart { ArePiecesApart self.new }
     {
         let node = node_of(self.first, self.log_len, at, log);
         put_back(&mut self.halvings, node);
@@ -128,7 +128,7 @@ impl Buddies {
     pub fn free(&self) -> u64
         ensures count { result ≡ free_words self.now }
         ensures all { self.now.out ≡ set.empty → result ≡ 2 ^ self.now.log_len }
-        ensures apart { IsApart self.now }
+        ensures apart { ArePiecesApart self.now }
     {
         self.free
     }

@@ -1,5 +1,5 @@
 ghost use Rattle.std.specs.Prelude.{◌≡◌, ◌+◌, ◌<◌, ◌≤◌, OnOk, IfOk, length, vec_len};
-ghost use Rattle.ck_words.specs.Held.{Holds};
+ghost use Rattle.ck_words.specs.Held.{HoldsPieces};
 
 use super::*;
 use std::alloc::{AllocError, Global};
@@ -51,8 +51,8 @@ fn take_one(
 ) -> Result<Option<u64>, AllocError>
     requires least { pool.old.log_min ≤ log }
     requires most { log ≤ pool.old.log_len }
-    requires holds { Holds pool.old held.old.items }
-    ensures holds { OnOk result (Holds pool.new held.new.items) }
+    requires holds { HoldsPieces pool.old held.old.items }
+    ensures holds { OnOk result (HoldsPieces pool.new held.new.items) }
     ensures min { pool.new.log_min ≡ pool.old.log_min }
     ensures len { pool.new.log_len ≡ pool.old.log_len }
 {
@@ -68,8 +68,8 @@ fn take_one(
 /// Gives a piece back, and strikes it out.
 fn give_one(pool: &mut Buddies, held: &mut Vec<(u64, u64)>, i: usize) -> (u64, u64)
     requires within { i < vec_len held.old }
-    requires holds { Holds pool.old held.old.items }
-    ensures holds { Holds pool.new held.new.items }
+    requires holds { HoldsPieces pool.old held.old.items }
+    ensures holds { HoldsPieces pool.new held.new.items }
     ensures fewer { vec_len held.new + 1 ≡ vec_len held.old }
     ensures min { pool.new.log_min ≡ pool.old.log_min }
     ensures len { pool.new.log_len ≡ pool.old.log_len }
@@ -130,8 +130,8 @@ fn take_agrees(
     requires least { pool.old.log_min ≤ log }
     requires most { log ≤ pool.old.log_len }
     requires small { log < 64 }
-    requires holds { Holds pool.old held.old.items }
-    ensures holds { OnOk result (Holds pool.new held.new.items) }
+    requires holds { HoldsPieces pool.old held.old.items }
+    ensures holds { OnOk result (HoldsPieces pool.new held.new.items) }
     ensures min { pool.new.log_min ≡ pool.old.log_min }
     ensures len { pool.new.log_len ≡ pool.old.log_len }
 {
@@ -145,8 +145,8 @@ fn take_agrees(
 /// Gives a piece back, and tells whether the list of words agrees.
 fn give_agrees(pool: &mut Buddies, held: &mut Vec<(u64, u64)>, words: &mut [bool], i: usize) -> bool
     requires within { i < vec_len held.old }
-    requires holds { Holds pool.old held.old.items }
-    ensures holds { Holds pool.new held.new.items }
+    requires holds { HoldsPieces pool.old held.old.items }
+    ensures holds { HoldsPieces pool.new held.new.items }
     ensures min { pool.new.log_min ≡ pool.old.log_min }
     ensures len { pool.new.log_len ≡ pool.old.log_len }
 {
@@ -168,8 +168,8 @@ fn step_agrees(
 ) -> Result<bool, AllocError>
     requires min { pool.old.log_min ≡ 3 }
     requires len { pool.old.log_len ≡ 8 }
-    requires holds { Holds pool.old held.old.items }
-    ensures holds { OnOk result (Holds pool.new held.new.items) }
+    requires holds { HoldsPieces pool.old held.old.items }
+    ensures holds { OnOk result (HoldsPieces pool.new held.new.items) }
     ensures min { pool.new.log_min ≡ 3 }
     ensures len { pool.new.log_len ≡ 8 }
 {

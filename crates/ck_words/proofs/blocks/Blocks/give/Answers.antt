@@ -1,12 +1,12 @@
 use Rattle.std.proofs.Common.{arith, ◌≡◌, ℕ, suc, List, slice_set, ◌+◌, ◌-◌, ◌/◌, refl, sym, ap, subst, ◌∙◌}
 use Rattle.std.specs.FinSet as set
-use Rattle.ck_words.specs.Blocks.{BlockArena, IsOut, IsBlocksOf, blocks_of, with_out, DropsBlock}
+use Rattle.ck_words.specs.Blocks.{BlockArena, IsBlockOut, IsBlocksOf, blocks_of, with_blocks_out, DropsBlock}
 use Rattle.ck_words.proofs.FreeBlocks.{given_from, given_small, given_room, given_back, given_is, blocks_apart, drops}
 use Rattle.ck_words.proofs.blocks.Blocks.give.Goals as goal
 
 -- the block is out of the arena that the fields stand for
-seen_out : (first free : ℕ) (numbers : List ℕ) (a : BlockArena) → blocks_of first free numbers ≡ a → (at : ℕ) → IsOut a at → IsOut (blocks_of first free numbers) at
-seen_out first free numbers a view at is_out = subst (λ x. IsOut x at) (sym view) is_out
+seen_out : (first free : ℕ) (numbers : List ℕ) (a : BlockArena) → blocks_of first free numbers ≡ a → (at : ℕ) → IsBlockOut a at → IsBlockOut (blocks_of first free numbers) at
+seen_out first free numbers a view at is_out = subst (λ x. IsBlockOut x at) (sym view) is_out
 
 pub overflow_sub-at : goal.overflow_sub-at
 overflow_sub-at c = given_from c.self.inside.first c.self.inside.free c.self.inside.numbers.items c.self.invariant c.args.at (seen_out _ _ _ _ c.self.view_is c.args.at c.requires)
@@ -38,7 +38,7 @@ returns-clause-after c =
     let written = slice_set inside.numbers.items inside.free ((c.args.at - inside.first) / 8) in
     ap (λ n. blocks_of inside.first n written) more
     ∙ given_back inside.first inside.free inside.numbers.items c.self.invariant c.args.at (seen_out _ _ _ _ c.self.view_is c.args.at c.requires) ((c.args.at - inside.first) / 8) refl
-    ∙ ap (λ a. with_out a (set.remove a.out c.args.at)) c.self.view_is
+    ∙ ap (λ a. with_blocks_out a (set.remove a.out c.args.at)) c.self.view_is
 
 pub returns-clause-drops : goal.returns-clause-drops
 returns-clause-drops c = subst (λ b. DropsBlock c.args.self.now b c.args.at) (sym (returns-clause-after c)) (drops c.args.self.now c.args.at)

@@ -1,5 +1,5 @@
 use Rattle.std.proofs.Common.{ap, subst, ◌∙◌}
-use Rattle.ck_words.specs.Buddies.{IsApart, free_words}
+use Rattle.ck_words.specs.Buddies.{ArePiecesApart, free_words}
 use Rattle.ck_words.proofs.Counting.{free_words-empty}
 use Rattle.ck_words.proofs.Arenas.{arena_apart}
 use Rattle.ck_words.proofs.buddies.Buddies.free.Goals as goal
@@ -10,4 +10,4 @@ returns-clause-all c = λ empty. c.self.invariant.free_is ∙ ap free_words c.se
 pub returns-clause-apart : goal.returns-clause-apart
 returns-clause-apart c =
     let inside = c.self.inside in
-    subst IsApart c.self.view_is (arena_apart inside.first inside.log_len inside.log_min inside.free inside.halvings.items c.self.invariant)
+    subst ArePiecesApart c.self.view_is (arena_apart inside.first inside.log_len inside.log_min inside.free inside.halvings.items c.self.invariant)

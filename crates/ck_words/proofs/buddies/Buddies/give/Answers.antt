@@ -3,7 +3,7 @@ use Rattle.std.proofs.lemmas.List.{with_items_is}
 use Rattle.std.specs.FinSet as set
 use Rattle.std.specs.Vec.{with_items}
 use Rattle.ck_words.specs.Tree.{PutsBack}
-use Rattle.ck_words.specs.Buddies.{IsApart, IsArenaOf, piece, arena_of, with_out, DropsPiece}
+use Rattle.ck_words.specs.Buddies.{ArePiecesApart, IsArenaOf, piece, arena_of, with_pieces_out, DropsPiece}
 use Rattle.ck_words.proofs.Members.{drops}
 use Rattle.ck_words.proofs.Arenas.{out_seen, arena_apart, free_fits, node_of_out, IsGiven, given}
 use Rattle.ck_words.proofs.buddies.Buddies.give.Goals as goal
@@ -76,7 +76,7 @@ returns-clause-after c =
     let inside = c.self.inside in
     ap (arena_of inside.first inside.log_len inside.log_min) (items_are c)
     ∙ (given_here c).is_out
-    ∙ ap (λ a. with_out a (set.remove a.out (piece c.args.at c.args.log))) c.self.view_is
+    ∙ ap (λ a. with_pieces_out a (set.remove a.out (piece c.args.at c.args.log))) c.self.view_is
 
 pub returns-clause-drops : goal.returns-clause-drops
 returns-clause-drops c = subst (λ b. DropsPiece c.args.self.now b (piece c.args.at c.args.log)) (sym (returns-clause-after c)) (drops c.args.self.now (piece c.args.at c.args.log))
@@ -84,4 +84,4 @@ returns-clause-drops c = subst (λ b. DropsPiece c.args.self.now b (piece c.args
 pub returns-clause-apart : goal.returns-clause-apart
 returns-clause-apart c =
     let inside = c.self.inside in
-    subst (λ h. IsApart (arena_of inside.first inside.log_len inside.log_min h)) (sym (items_are c)) (arena_apart inside.first inside.log_len inside.log_min _ c.put_back.new.halvings (given_here c).is_arena)
+    subst (λ h. ArePiecesApart (arena_of inside.first inside.log_len inside.log_min h)) (sym (items_are c)) (arena_apart inside.first inside.log_len inside.log_min _ c.put_back.new.halvings (given_here c).is_arena)

@@ -4,7 +4,7 @@ use Rattle.std.proofs.lemmas.Grind.{get_or_default_zero}
 use Rattle.std.proofs.lemmas.Nat.{pow_pos}
 use Rattle.std.specs.FinSet as set
 use Rattle.std.specs.Vec.{with_items}
-use Rattle.ck_words.specs.Buddies.{IsApart, IsPlaced, IsFree, IsArenaOf, HasWordOut, piece, arena_of, with_out, AddsPiece}
+use Rattle.ck_words.specs.Buddies.{ArePiecesApart, IsAlignedIn, IsFree, IsArenaOf, HasWordOut, piece, arena_of, with_pieces_out, AddsPiece}
 use Rattle.ck_words.proofs.Members.{adds}
 use Rattle.ck_words.proofs.Arenas.{at_least, at_most, arena_apart, row_tall, row_from, row_to, row_in_tree, IsTaken, taken_row, row_enough, none_where_full, none_where_empty, not_out_of_free}
 use Rattle.ck_words.proofs.buddies.Buddies.take.Goals as goal
@@ -21,7 +21,7 @@ returns-then-from-depth-clause-none c =
     let two : 1 < length inside.halvings.items = omega arith in
     let value : slice_index inside.halvings.items 1 ≡ c.from.result = sym (c.from.ensures ∙ c.index.ensures ∙ get_or_default_zero inside.halvings.items 1 c.index.result.now two) in
     let none = none_where_full inside.first inside.log_len inside.log_min inside.free inside.halvings.items c.self.invariant c.args.log (at_least _ _ _ _ _ c.self.view_is c.args.log c.requires.least) (at_most _ _ _ _ _ c.self.view_is c.args.log c.requires.most) (subst (λ n. inside.log_len - c.args.log < n) (sym value) c.if-from-depth.true) in
-    (λ _ at. subst (λ a. IsPlaced a (piece at c.args.log) → HasWordOut a (piece at c.args.log)) c.self.view_is (none at), λ _. refl)
+    (λ _ at. subst (λ a. IsAlignedIn a (piece at c.args.log) → HasWordOut a (piece at c.args.log)) c.self.view_is (none at), λ _. refl)
 
 pub returns-then-from-depth-clause-whole : goal.returns-then-from-depth-clause-whole
 returns-then-from-depth-clause-whole c =
@@ -30,7 +30,7 @@ returns-then-from-depth-clause-whole c =
 pub returns-then-from-depth-clause-apart : goal.returns-then-from-depth-clause-apart
 returns-then-from-depth-clause-apart c =
     let inside = c.self.inside in
-    subst IsApart c.self.view_is (arena_apart inside.first inside.log_len inside.log_min inside.free inside.halvings.items c.self.invariant)
+    subst ArePiecesApart c.self.view_is (arena_apart inside.first inside.log_len inside.log_min inside.free inside.halvings.items c.self.invariant)
 
 pub descend-node-requires-clause-tall : goal.descend-node-requires-clause-tall
 descend-node-requires-clause-tall c =
@@ -92,7 +92,7 @@ invariant_of-self c =
     (subst (λ n. IsArenaOf inside.first inside.log_len inside.log_min (inside.free - n) c.take_out.new.halvings) (sym c.words_of.ensures) is)
 
 pub returns-clause-placed : goal.returns-clause-placed
-returns-clause-placed c = subst (λ a. IsPlaced a (piece c.place_of.result c.args.log)) c.self.view_is (taken_here c).placed
+returns-clause-placed c = subst (λ a. IsAlignedIn a (piece c.place_of.result c.args.log)) c.self.view_is (taken_here c).placed
 
 pub returns-clause-was_free : goal.returns-clause-was_free
 returns-clause-was_free c = subst (λ a. IsFree a (piece c.place_of.result c.args.log)) c.self.view_is (taken_here c).was_free
@@ -105,7 +105,7 @@ returns-clause-after c =
     let inside = c.self.inside in
     ap (arena_of inside.first inside.log_len inside.log_min) (items_are c)
     ∙ (taken_here c).is_out
-    ∙ ap (λ a. with_out a (set.insert a.out (piece c.place_of.result c.args.log))) c.self.view_is
+    ∙ ap (λ a. with_pieces_out a (set.insert a.out (piece c.place_of.result c.args.log))) c.self.view_is
 
 pub returns-clause-adds : goal.returns-clause-adds
 returns-clause-adds c = subst (λ b. AddsPiece c.args.self.now b (piece c.place_of.result c.args.log)) (sym (returns-clause-after c)) (adds c.args.self.now (piece c.place_of.result c.args.log))
@@ -119,4 +119,4 @@ returns-clause-none c = (λ e. absurd (true≢false e), λ none. let has = none 
 pub returns-clause-apart : goal.returns-clause-apart
 returns-clause-apart c =
     let inside = c.self.inside in
-    subst (λ h. IsApart (arena_of inside.first inside.log_len inside.log_min h)) (sym (items_are c)) (arena_apart inside.first inside.log_len inside.log_min _ c.take_out.new.halvings (taken_here c).is_arena)
+    subst (λ h. ArePiecesApart (arena_of inside.first inside.log_len inside.log_min h)) (sym (items_are c)) (arena_apart inside.first inside.log_len inside.log_min _ c.take_out.new.halvings (taken_here c).is_arena)
