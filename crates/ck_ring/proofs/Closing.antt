@@ -14,9 +14,9 @@ use Rattle.ck_run.specs.Ends.{AreTied, joined_all}
 use Rattle.ck_run.proofs.Lists.{all_at, All-weaker, All-both}
 use Rattle.ck_run.proofs.Ends.{each_at, tied_same, are_closed}
 use Rattle.ck_ring.specs.State.{Origin, Token, TokenState, start, ring, state, state_at, size_of}
-use Rattle.ck_ring.specs.Ring.{Took, Ascends, Rises, IsRingOf}
+use Rattle.ck_ring.specs.Ring.{TookPosition, Ascends, Rises, IsRingOf}
 use Rattle.ck_ring.specs.Order.{IsRingOrder}
-use Rattle.ck_ring.specs.Ends.{IsClosedRing, AreAll, AreNumbered, IsServed}
+use Rattle.ck_ring.specs.Ends.{IsClosedRing, AreAll, AreNumberedFrom, IsClosedInOrder}
 use Rattle.ck_ring.proofs.Moments.{ring_after}
 
 -- the tokens that were taken in are those of the consumers
@@ -35,7 +35,7 @@ closed_ring R p cs ts w v words same tied e of all closed =
     }
 
 -- consumers in their order are all
-pub all_numbered : (p : Token) (cs : List Token) → AreNumbered 1 cs → (origin p).tokens ≡ length cs + 1 → AreAll p cs
+pub all_numbered : (p : Token) (cs : List Token) → AreNumberedFrom 1 cs → (origin p).tokens ≡ length cs + 1 → AreAll p cs
 all_numbered p cs h count n pos low = let r = each_at (λ (k : ℕ) (c : Token). number c ≡ k) 1 cs (n - 1) h (omega arith) in (n - 1, r.0, r.1, r.2 ∙ omega arith)
 
 -- ring order, from what holds of a ring
@@ -66,12 +66,12 @@ in_ring_order size words at r = record {
     rises_in zero = r.producer.rises
     rises_in (suc n) = (r.consumer (suc n) (omega arith)).rises
 
-none_took : (n i : ℕ) → Took (start n) i → ⊥
+none_took : (n i : ℕ) → TookPosition (start n) i → ⊥
 none_took zero i t = some-ne-none (i, t.1) (sym t.2)
 none_took (suc n) i t = some-ne-none (i, t.1) (sym t.2)
 
 -- what is served
-pub served : (p : Token) (cs : List Token) (words : List ℕ) → number p ≡ 0 → All (λ (c : Token). 0 < number c) cs → IsClosedRing p cs words → AreAll p cs → IsServed p cs words
+pub served : (p : Token) (cs : List Token) (words : List ℕ) → number p ≡ 0 → All (λ (c : Token). 0 < number c) cs → IsClosedRing p cs words → AreAll p cs → IsClosedInOrder p cs words
 served p cs words first positive closed all =
     let o = origin p in
     let at : ℕ → TokenState = λ n. state_at o n (account n closed.run) in
@@ -88,10 +88,10 @@ served p cs words first positive closed all =
       left = λ i x low e. r.left i x low (subst (λ (h : TokenState). get_elem? h.sent i ≡ some x) (sym same_p) e);
       taken = λ i b. let t = r.taken i b in
           dite (dec_le o.tokens t.0)
-          (λ (past : o.tokens ≤ t.0). absurd (none_took t.0 i (subst (λ (es : List Entry). Took (state_at o t.0 es) i) (closed.is_run.none t.0 past) t.2)))
+          (λ (past : o.tokens ≤ t.0). absurd (none_took t.0 i (subst (λ (es : List Entry). TookPosition (state_at o t.0 es) i) (closed.is_run.none t.0 past) t.2)))
           (λ (low : ¬ (o.tokens ≤ t.0)). let g = all t.0 t.1 (lt_of_not-le low) in
-          (g.0, g.1, g.2, subst (λ (h : TokenState). Took h i) (subst (λ (n : ℕ). at n ≡ state g.1) g.3 (same g.0 g.1 g.2)) t.2));
-      once = λ j k i c d ec ed tc td. r.once (number c) (number d) i (pos j c ec) (pos k d ed) (subst (λ (h : TokenState). Took h i) (sym (same j c ec)) tc) (subst (λ (h : TokenState). Took h i) (sym (same k d ed)) td);
+          (g.0, g.1, g.2, subst (λ (h : TokenState). TookPosition h i) (subst (λ (n : ℕ). at n ≡ state g.1) g.3 (same g.0 g.1 g.2)) t.2));
+      once = λ j k i c d ec ed tc td. r.once (number c) (number d) i (pos j c ec) (pos k d ed) (subst (λ (h : TokenState). TookPosition h i) (sym (same j c ec)) tc) (subst (λ (h : TokenState). TookPosition h i) (sym (same k d ed)) td);
       values = λ k j i x c ec e.
           let v = r.values (number c) j i x (pos k c ec) (subst (λ (h : TokenState). get_elem? h.took j ≡ some (i, x)) (sym (same k c ec)) e) in
           (v.0, subst (λ (h : TokenState). get_elem? h.sent i ≡ some x) same_p v.1);

@@ -7,7 +7,7 @@ use Rattle.ck_run.specs.Rule.{IsRun}
 use Rattle.ck_run.specs.Machine.{Claim, follows_of}
 use Rattle.ck_ring.specs.declared.layout.TheConstants.{HEAD, TAIL, MOST_SENT}
 use Rattle.ck_ring.specs.State.{Origin, TokenState, ring, state_at, size_of, slot}
-use Rattle.ck_ring.specs.Ring.{Took, Ascends, Rises, pending, IsPlaced, IsAt, IsRingOf}
+use Rattle.ck_ring.specs.Ring.{TookPosition, Ascends, Rises, pending, IsInSlot, KnowsHead, IsRingOf}
 
 -- The words and the tokens of a ring, at a moment of a true run, are in ring order: the tail counts what was sent, and the head doesn't
 -- pass it. `sent` are the values that the producer sent by then, and `at` is what each token did by then
@@ -25,12 +25,12 @@ pub record IsRingOrder (size : ℕ) (words sent : List ℕ) (at : ℕ → TokenS
   -- the values from the head to below the tail lie in their places
   pub left : (i x : ℕ) → slice_index words HEAD ≤ i → get_elem? sent i ≡ some x → slice_index words (slot size i) ≡ x
   -- a value that the producer stored and hasn't sent yet lies in its place
-  pub placed : IsPlaced size words (length sent) (at 0).stage
+  pub placed : IsInSlot size words (length sent) (at 0).stage
   -- what a consumer aims at is below the tail, and is the value that was sent there as long as the head stands there
-  pub aims : (n : ℕ) → 0 < n → IsAt (slice_index words HEAD) sent (at n).stage
+  pub aims : (n : ℕ) → 0 < n → KnowsHead (slice_index words HEAD) sent (at n).stage
   -- each position below the head was taken, by one consumer, with the value that was sent there, and no other position was
-  pub taken : (i : ℕ) → i < slice_index words HEAD → (n : ℕ) × (0 < n) × Took (at n) i
-  pub once : (n m i : ℕ) → 0 < n → 0 < m → Took (at n) i → Took (at m) i → n ≡ m
+  pub taken : (i : ℕ) → i < slice_index words HEAD → (n : ℕ) × (0 < n) × TookPosition (at n) i
+  pub once : (n m i : ℕ) → 0 < n → 0 < m → TookPosition (at n) i → TookPosition (at m) i → n ≡ m
   pub values : (n k i x : ℕ) → 0 < n → get_elem? (at n).took k ≡ some (i, x) → (i < slice_index words HEAD) × (get_elem? sent i ≡ some x)
   -- a consumer's positions ascend, and the heads that a token loads or finds never fall
   pub ascends : (n : ℕ) → 0 < n → Ascends (at n).took

@@ -44,9 +44,9 @@ impl Ring {
     ghost use Rattle.ck_run.specs.Tokens.{table, number, MayMake, Makes};
     ghost use Rattle.ck_run.specs.Ends.{fresh, AreFresh};
     ghost use Rattle.ck_ring.specs.declared.layout.TheConstants.{HEAD, TAIL, MOST_CALLS, MOST_SENT};
-    ghost use Rattle.ck_ring.specs.State.{ring, state, size_of, aim, settle, try_dequeue, aimed, IsOpening, IsIdle, IsInRun};
-    ghost use Rattle.ck_ring.specs.Calls.{IsFull, HasRoom, Sends, Refuses, LookSteps, Looked, position_of, state_aimed, IsLater, WasEmpty, take_of, Settles, IsAbove, OwnsItem, IsInOrder, Tries};
-    ghost use Rattle.ck_ring.specs.Ends.{AreAll, IsClosedRing, IsServed};
+    ghost use Rattle.ck_ring.specs.State.{ring, state, size_of, aim, settle, try_dequeue, aimed, IsOpening, IsIdle, IsRingToken};
+    ghost use Rattle.ck_ring.specs.Calls.{IsFull, RingHasRoom, Sends, Refuses, LookSteps, HasLooked, position_of, state_aimed, IsLater, WasEmpty, take_of, Settles, IsAbove, OwnsItem, IsInOrder, Tries};
+    ghost use Rattle.ck_ring.specs.Ends.{AreAll, IsClosedRing, IsClosedInOrder};
 
     // The first step of `enqueue`, a load. The caller picks `O` by `argument`, which only contracts read: it is the value that is to be sent.
     fn first_load<O: Opens>(&self, token: &mut Token<()>, word: usize, argument: u64) -> u64
@@ -67,12 +67,12 @@ impl Ring {
         requires calls { (state p.old).calls < MOST_SENT }
         ensures same { (table p.new ≡ table p.old) × (number p.new ≡ number p.old) }
         ensures steps { MatchResult result
-            (λ _. (head : ℕ) × HasRoom (size_of self.now.origin) p.old head × Sends (size_of self.now.origin) p.old v head p.new)
+            (λ _. (head : ℕ) × RingHasRoom (size_of self.now.origin) p.old head × Sends (size_of self.now.origin) p.old v head p.new)
             (λ full. IsFull (size_of self.now.origin) p.old full.head × Refuses p.old v full.head p.new) }
         ensures full { MatchResult result (λ _. Unit {0}) (λ full. full.tail ≡ length (state p.old).sent) }
         ensures sent { MatchResult result (λ _. (state p.new).sent ≡ (state p.old).sent ++ v ∷ []) (λ _. (state p.new).sent ≡ (state p.old).sent) }
         ensures calls { (state p.new).calls ≡ (state p.old).calls + 1 }
-        ensures part { IsInRun p.new }
+        ensures part { IsRingToken p.new }
     {
         // No one else stores the tail, so the producer knows it without a load.
         let tail = p.tail;
@@ -98,7 +98,7 @@ impl Ring {
         requires calls { (state token.old).calls < MOST_CALLS }
         requires name { (O.opens ≡ aim ∷ []) ⊎ (O.opens ≡ try_dequeue ∷ []) }
         ensures same { (table token.new ≡ table token.old) × (number token.new ≡ number token.old) }
-        ensures looked { Looked (size_of self.now.origin) O.opens token.old result token.new }
+        ensures looked { HasLooked (size_of self.now.origin) O.opens token.old result token.new }
     {
         // The head before the tail. The other way round the head could have passed the tail that was loaded, and the position would hold
         // nothing yet.
@@ -145,7 +145,7 @@ impl Ring {
         ensures state { state c.new ≡ state_aimed (state c.old) (aim ∷ []) result }
         ensures calls { (state c.new).calls ≡ (state c.old).calls + 1 }
         ensures order { IsInOrder c.new }
-        ensures part { IsInRun c.new }
+        ensures part { IsRingToken c.new }
     {
         let aim = self.look::<Brand>(&mut c.token);
         c.calls += 1;
@@ -164,7 +164,7 @@ impl Ring {
         ensures above { IsAbove mine result }
         ensures own { OwnsItem c.new mine result }
         ensures order { IsInOrder c.new }
-        ensures part { IsInRun c.new }
+        ensures part { IsRingToken c.new }
     {
         let take = self.exchange_head::<Brand>(&mut c.token, mine, item);
         c.calls += 1;
@@ -179,7 +179,7 @@ impl Ring {
         ensures steps { Tries (size_of self.now.origin) c.old result c.new }
         ensures calls { (state c.new).calls ≡ (state c.old).calls + 1 }
         ensures order { IsInOrder c.new }
-        ensures part { IsInRun c.new }
+        ensures part { IsRingToken c.new }
     {
         let aim = self.look::<Brand>(&mut c.token);
         c.calls += 1;
@@ -226,7 +226,7 @@ impl Ring {
         requires producer { table p ≡ self }
         requires consumers { All (λ c. table c ≡ self) cs.items }
         requires all { AreAll p cs.items }
-        ensures served { IsServed p cs.items result.words.items }
+        ensures served { IsClosedInOrder p cs.items result.words.items }
         ensures words { (result.head ≡ slice_index result.words.items HEAD) × (result.tail ≡ slice_index result.words.items TAIL) × (vec_len result.words ≡ length self.origin.words) }
         ensures run { IsClosedRing p cs.items result.words.items }
     {

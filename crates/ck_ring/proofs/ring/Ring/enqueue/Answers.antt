@@ -2,7 +2,7 @@ use Rattle.std.proofs.Common.{ℕ, ◌+◌, ◌-◌, ◌%◌, ◌<◌, refl, sym
 use Rattle.ck_run.specs.Tokens.{Table, table}
 use Rattle.ck_ring.specs.declared.layout.TheConstants.{MOST_SENT}
 use Rattle.ck_ring.specs.State.{Token, state, size_of}
-use Rattle.ck_ring.specs.Calls.{HasRoom, Sends}
+use Rattle.ck_ring.specs.Calls.{RingHasRoom, Sends}
 use Rattle.ck_ring.proofs.Sizes.{size_seen}
 use Rattle.ck_ring.proofs.Enqueue.{may_check, within, bounded, may_write, may_send, has_room, sends}
 use Rattle.ck_ring.proofs.ring.Ring.enqueue.Goals as goal
@@ -39,7 +39,7 @@ returns-clause-steps c =
     let head = c.first_load-head.result in
     let e = size_seen c.self.inside.size c.p.inside.token c.self.inside.words (ap table c.p.view_is ∙ (c.requires.table ∙ sym c.self.view_is)) c.self.invariant in
     let q = ap (λ (x : Table (Unit {0})). size_of x.origin) (ap table c.p.view_is ∙ c.requires.table) in
-    let P : ℕ → Token → Type 0 = λ n x. (h : ℕ) × HasRoom n x h × Sends n x c.args.v h u in
+    let P : ℕ → Token → Type 0 = λ n x. (h : ℕ) × RingHasRoom n x h × Sends n x c.args.v h u in
     subst (λ (x : Token). P (size_of c.args.self.now.origin) x) c.p.view_is
     (subst (λ (n : ℕ). P n t) q (
       head,

@@ -1,7 +1,7 @@
 use Rattle.std.proofs.Common.{◌+◌, ap, ◌∙◌, sym, subst}
 use Rattle.ck_ring.specs.State.{Token, TokenState, state, size_of}
 use Rattle.ck_ring.specs.declared.answers.Take.{Take}
-use Rattle.ck_ring.specs.Calls.{FindsNone, Tries}
+use Rattle.ck_ring.specs.Calls.{FindsRingEmpty, Tries}
 use Rattle.ck_ring.proofs.Exchange.{may_try, tried, idle_tried, try_steps, idle_none, finds_none, in_order}
 use Rattle.ck_ring.proofs.ring.Ring.try_dequeue.Goals as goal
 
@@ -16,7 +16,7 @@ invariant_of-c-in-At c =
 
 pub returns-in-Empty-clause-steps : goal.returns-in-Empty-clause-steps
 returns-in-Empty-clause-steps c =
-    subst (λ (t : Token). FindsNone t c.in-Empty.at c.look-aim.new.token) c.c.view_is
+    subst (λ (t : Token). FindsRingEmpty t c.in-Empty.at c.look-aim.new.token) c.c.view_is
     (finds_none c.c.inside.token c.look-aim.new.token c.c.inside.calls _ c.in-Empty.at c.c.invariant c.in-Empty.ensures.looked)
 
 pub returns-in-Empty-clause-order : goal.returns-in-Empty-clause-order
