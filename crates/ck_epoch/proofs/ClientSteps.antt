@@ -9,7 +9,7 @@ use Rattle.ck_epoch.specs.declared.about.About.{About}
 use Rattle.ck_epoch.specs.State.{Origin, Token, TokenState, Stage, outside, inside, free, base, base_of, records_of, at_depth, after_step, MayStep, state, depth}
 use Rattle.ck_epoch.specs.Lists.{Backlog}
 use Rattle.ck_epoch.specs.Client.{Client, IsGuarded, program}
-use Rattle.ck_epoch.specs.Ends.{IsInRun, IsWriting, IsReading, IsWriter, IsPass}
+use Rattle.ck_epoch.specs.Ends.{IsDomainToken, IsWriting, IsReading, IsWriter, IsPass}
 use Rattle.ck_epoch.specs.Calls.{MayFollow}
 use Rattle.ck_epoch.proofs.Stepping.{Steps, may_step, state_after_step}
 
@@ -56,7 +56,7 @@ module _ (R w : ℕ) (high : base R ≤ w) (t : TokenState) (opens : List ℕ) w
   rests g (Exchange at old new found) r e = absurd e
   rests g s r e = absurd r
 
-module _ {C : Type 0} (client : Client C) (t : Token C) (part : IsInRun client t) (resting : IsResting (state t).stage) (opens : List ℕ) (s : Step) (w : ℕ) (on : IsOn w s) (high : base_of (origin t) ≤ w) where
+module _ {C : Type 0} (client : Client C) (t : Token C) (part : IsDomainToken client t) (resting : IsResting (state t).stage) (opens : List ℕ) (s : Step) (w : ℕ) (on : IsOn w s) (high : base_of (origin t) ≤ w) where
   may_client : (0 < number t → IsGuarded client (origin t) (state t) (entry opens s)) → MayFollow client t (entry opens s) → MayMake (program client) t (entry opens s)
   may_client guarded follows = may_step client t (entry opens s) part (may_rest (records_of (origin t)) w high (state t) opens (state t).stage s resting on) guarded follows
 

@@ -9,7 +9,7 @@ use native.Mathlib.Decide.{ℕ_discrete}
 use Rattle.ck_words.specs.declared.back.Back.{Back}
 use Rattle.ck_epoch.specs.declared.item.Item.{Item}
 use Rattle.ck_epoch.specs.declared.item.Retired.{Retired}
-use Rattle.ck_epoch.specs.Lists.{is_on, on, off, by_list, items_on, in_a_row, AreListsOf, homes, PendingList, lists_view, HasRoom, AreRetired, IsDispatched, AreDispatched}
+use Rattle.ck_epoch.specs.Lists.{is_on, on, off, by_list, items_on, in_a_row, AreListsOf, homes, PendingList, lists_view, ListsHaveRoom, AreRetired, IsDispatched, AreDispatched}
 use Rattle.ck_epoch.proofs.FourLists.{on-off, on_gone, length_by_list}
 
 -- the lists after one of them is set to these items
@@ -102,7 +102,7 @@ put_length r lists after is =
     let s = length-append (on 2 (r ∷ [])) (on 3 (r ∷ [])) in
     omega arith
 
-module _ {Z : Type 0} (lists : Vec PendingList Z) (waiting room : ℕ) (has : HasRoom lists waiting room) where
+module _ {Z : Type 0} (lists : Vec PendingList Z) (waiting room : ℕ) (has : ListsHaveRoom lists waiting room) where
   is_low : (at : ℕ) → at < 4 → at < length lists.items
   is_low at low = let a = has.four in let b = lists.ok.0 in omega arith
 
@@ -114,7 +114,7 @@ module _ {Z : Type 0} (lists : Vec PendingList Z) (waiting room : ℕ) (has : Ha
   items_at at l low e = view_at lists.items at l (is_low at low) e
 
   pub room_after : (at : ℕ) (l k : PendingList) (waiting' room' : ℕ) → at < 4 → l ≡ get_or lists.items at l → k.room ≡ l.room → room' ≡ room
-      → length (in_a_row (lists_view (slice_set lists.items at k))) + waiting' ≤ room' → HasRoom (with_item lists at k) waiting' room'
+      → length (in_a_row (lists_view (slice_set lists.items at k))) + waiting' ≤ room' → ListsHaveRoom (with_item lists at k) waiting' room'
   room_after at l k waiting' room' low e same is fits = record {
     four = has.four;
     roomy = subst (λ (r : ℕ). All (λ (x : PendingList). x.room ≡ r) (slice_set lists.items at k)) (sym is)

@@ -10,7 +10,7 @@ use Rattle.ck_run.proofs.Moments.{holds_along, run_before}
 use Rattle.ck_epoch.specs.Lists.{is_on}
 use Rattle.ck_epoch.specs.State.{epoch_word, Stage, holding, inside, Retirement, TokenState, start, next, May, Origin, records_of, IsOpening, epochs, state_at}
 use Rattle.ck_epoch.specs.Epochs.{IsOpen, IsPassed, IsRetired, writer_in, stage_in, IsSafeNow, IsSafe, AreEpochs, KeepsEpochs, HasWaited}
-use Rattle.ck_epoch.specs.Held.{IsTimely, IsCurrent, GuardsSection, IsOpenAt, AreHeld}
+use Rattle.ck_epoch.specs.Held.{IsTimely, IsAtGlobal, GuardsSection, IsOpenAt, AreHeld}
 use Rattle.ck_epoch.proofs.Keeps.{keeps}
 use Rattle.ck_epoch.proofs.RecordsKept.{none_some}
 
@@ -83,8 +83,8 @@ module _ {C : Type 0} where
     timely : (r : ℕ) (g : Stage) → r < records_of origin → stage_in origin run r ≡ g → IsTimely E (G r) g
     timely r g l is = subst (IsTimely E (G r)) is (h.each r l).timely
 
-    current : (r : ℕ) (g : Stage) → r < records_of origin → IsPassed (writer_in origin run).stage r → stage_in origin run r ≡ g → IsCurrent E g
-    current r g l p is = subst (IsCurrent E) is ((h.each r l).current p)
+    current : (r : ℕ) (g : Stage) → r < records_of origin → IsPassed (writer_in origin run).stage r → stage_in origin run r ≡ g → IsAtGlobal E g
+    current r g l p is = subst (IsAtGlobal E) is ((h.each r l).current p)
 
     pub epochs_now : AreEpochs origin run (replay origin.words run)
     epochs_now = record {

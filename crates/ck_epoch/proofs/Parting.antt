@@ -17,7 +17,7 @@ use Rattle.ck_epoch.specs.State.{Token, TokenState, start, records_of, base_of, 
 use Rattle.ck_epoch.specs.Client.{Client, Starts, program}
 use Rattle.ck_epoch.specs.declared.item.Retired.{Retired}
 use Rattle.ck_epoch.specs.Lists.{Backlog, AreListsOf, AreRetired}
-use Rattle.ck_epoch.specs.Ends.{Pass, IsInRun, IsWriter, IsPass}
+use Rattle.ck_epoch.specs.Ends.{Pass, IsDomainToken, IsWriter, IsPass}
 use Rattle.ck_epoch.specs.Closing.{AreOpening, IsClosedDomain}
 use Rattle.ck_epoch.proofs.EpochLaw.{safe, keeps_epochs}
 
@@ -26,8 +26,8 @@ module _ {C : Type 0} where
     pub may_start : (n : ℕ) → program client table.origin n []
     may_start n = ((opening.0, tt), opening.1, (λ other. tt), starts (base_of table.origin) table.origin opening.1.words n)
 
-    new_in_run : (t : Token C) (n : ℕ) → t ≡ fresh table n → IsInRun client t
-    new_in_run t n is = subst (IsInRun client) (sym is) record { run = []; is_run = record { is_true = tt; follow = may_start; none = λ k b. refl }; mine = refl }
+    new_in_run : (t : Token C) (n : ℕ) → t ≡ fresh table n → IsDomainToken client t
+    new_in_run t n is = subst (IsDomainToken client) (sym is) record { run = []; is_run = record { is_true = tt; follow = may_start; none = λ k b. refl }; mine = refl }
 
     pub new_pass : (t : Token C) (n : ℕ) → t ≡ fresh table n → 0 < n → n ≤ records_of table.origin → IsPass client t (n - 1) 0 × ((state t).calls ≤ 0)
     new_pass t n is pos low =

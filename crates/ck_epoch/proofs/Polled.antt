@@ -13,8 +13,8 @@ use Rattle.ck_epoch.specs.State.{Token, TokenState, Retirement, on_list, off_lis
 use Rattle.ck_epoch.specs.Lists.{Backlog, is_on, on, off, by_list, items_on, in_a_row, homes, AreListsOf, AreRetired}
 use Rattle.ck_epoch.specs.Client.{Client}
 use Rattle.ck_epoch.specs.Ends.{Writer, IsWriter}
-use Rattle.ck_epoch.specs.Calls.{gone}
-use Rattle.ck_epoch.specs.Scan.{gone_first, IsDone}
+use Rattle.ck_epoch.specs.Calls.{dispatched_items}
+use Rattle.ck_epoch.specs.Scan.{first_dispatch, IsDone}
 use Rattle.ck_epoch.proofs.FourLists.{on_gone, length_by_list, queue_off, queue_on, queue_by_list, queue_behind}
 use Rattle.ck_epoch.proofs.Emptying.{IsEmptied, lists_off, row_is}
 
@@ -83,17 +83,17 @@ module _ (e : ℕ) (s : TokenState) where
   abbrev first_list : ℕ
   first_list = (e - 2) % 4
 
-  pub gone_one : queue (gone_first e s) ≡ queue s.dispatched ++ on first_list (queue s.pending)
+  pub gone_one : queue (first_dispatch e s) ≡ queue s.dispatched ++ on first_list (queue s.pending)
   gone_one = queue_behind s.dispatched (on_list first_list s.pending) (on first_list (queue s.pending)) (queue_on first_list s.pending)
 
-  gone_more : (items : List Retirement) (rest : List Retired) → queue items ≡ rest → queue (gone_first e s ++ items) ≡ queue s.dispatched ++ (on first_list (queue s.pending) ++ rest)
-  gone_more items rest is = queue_behind (gone_first e s) items rest is ∙ (ap (λ (rs : List Retired). rs ++ rest) gone_one ∙ append_assoc (queue s.dispatched) (on first_list (queue s.pending)) rest)
+  gone_more : (items : List Retirement) (rest : List Retired) → queue items ≡ rest → queue (first_dispatch e s ++ items) ≡ queue s.dispatched ++ (on first_list (queue s.pending) ++ rest)
+  gone_more items rest is = queue_behind (first_dispatch e s) items rest is ∙ (ap (λ (rs : List Retired). rs ++ rest) gone_one ∙ append_assoc (queue s.dispatched) (on first_list (queue s.pending)) rest)
 
-  pub gone_two : queue (gone_first e s ++ on_list ((e - 1) % 4) (off_list first_list s.pending)) ≡ queue s.dispatched ++ gone e (Moved 0 0) (queue s.pending)
+  pub gone_two : queue (first_dispatch e s ++ on_list ((e - 1) % 4) (off_list first_list s.pending)) ≡ queue s.dispatched ++ dispatched_items e (Moved 0 0) (queue s.pending)
   gone_two = gone_more (on_list ((e - 1) % 4) (off_list first_list s.pending)) (on ((e - 1) % 4) (off first_list (queue s.pending)))
       (queue_on ((e - 1) % 4) (off_list first_list s.pending) ∙ ap (on ((e - 1) % 4)) (queue_off first_list s.pending))
 
-  pub gone_all : queue (gone_first e s ++ list_by_list (off_list first_list s.pending)) ≡ queue s.dispatched ++ gone e (Clear 0) (queue s.pending)
+  pub gone_all : queue (first_dispatch e s ++ list_by_list (off_list first_list s.pending)) ≡ queue s.dispatched ++ dispatched_items e (Clear 0) (queue s.pending)
   gone_all = gone_more (list_by_list (off_list first_list s.pending)) (by_list (off first_list (queue s.pending)))
       (queue_by_list (off_list first_list s.pending) ∙ ap by_list (queue_off first_list s.pending))
 
@@ -138,11 +138,11 @@ module _ {C F : Type 0} (client : Client C) (about : About C) (d now : Table (Ab
   about_is = sym told ∙ ap (λ (x : Table (About C)). x.origin.config) keeps
 
   pub told_waiting : (calls room tally : ℕ) (handler : F) → ◌≡◌ {A = Writer C F} (record { token = t; calls = calls; waiting = waiting; room = room; handler = handler; tally = tally }) v
-      → (after : List Back) → after ≡ waiting ++ homes (client.home about.client) (gone e p (queue (state t).pending)) → after ≡ v.waiting ++ homes (client.home now.origin.config.client) (gone (state v.token).epoch p (queue (state v.token).pending))
+      → (after : List Back) → after ≡ waiting ++ homes (client.home about.client) (dispatched_items e p (queue (state t).pending)) → after ≡ v.waiting ++ homes (client.home now.origin.config.client) (dispatched_items (state v.token).epoch p (queue (state v.token).pending))
   told_waiting calls room tally handler view after is = is
-      ∙ (ap (λ (n : ℕ). waiting ++ homes (client.home about.client) (gone n p (queue (state t).pending))) (sym epoch)
-      ∙ (ap (λ (a : About C). waiting ++ homes (client.home a.client) (gone (state t).epoch p (queue (state t).pending))) about_is
-      ∙ ap (λ (w : Writer C F). w.waiting ++ homes (client.home now.origin.config.client) (gone (state w.token).epoch p (queue (state w.token).pending))) view))
+      ∙ (ap (λ (n : ℕ). waiting ++ homes (client.home about.client) (dispatched_items n p (queue (state t).pending))) (sym epoch)
+      ∙ (ap (λ (a : About C). waiting ++ homes (client.home a.client) (dispatched_items (state t).epoch p (queue (state t).pending))) about_is
+      ∙ ap (λ (w : Writer C F). w.waiting ++ homes (client.home now.origin.config.client) (dispatched_items (state w.token).epoch p (queue (state w.token).pending))) view))
 
-  pub told_count : (v.token ≡ t) → (n : ℕ) → n ≡ length (gone e p (queue (state t).pending)) → n ≡ length (gone (state v.token).epoch p (queue (state v.token).pending))
-  told_count same n is = is ∙ (ap (λ (k : ℕ). length (gone k p (queue (state t).pending))) (sym epoch) ∙ ap (λ (u : Token C). length (gone (state u).epoch p (queue (state u).pending))) (sym same))
+  pub told_count : (v.token ≡ t) → (n : ℕ) → n ≡ length (dispatched_items e p (queue (state t).pending)) → n ≡ length (dispatched_items (state v.token).epoch p (queue (state v.token).pending))
+  told_count same n is = is ∙ (ap (λ (k : ℕ). length (dispatched_items k p (queue (state t).pending))) (sym epoch) ∙ ap (λ (u : Token C). length (dispatched_items (state u).epoch p (queue (state u).pending))) (sym same))

@@ -14,12 +14,12 @@ use Rattle.ck_epoch.specs.declared.about.About.{About}
 use Rattle.ck_epoch.specs.State.{Origin, Token, TokenState, Stage, polling, free, scanning, comparing, records_of, active_word, epoch_word, Retirement, on_list, off_list, list_by_list, dispatch, dispatch_all, first_busy, is_clear, poll, state}
 use Rattle.ck_epoch.specs.Client.{Client, Passes, program}
 use Rattle.ck_epoch.specs.Ends.{IsWriting}
-use Rattle.ck_epoch.specs.Calls.{Looked, look_steps, scan_steps, AreInactive, AreCurrent}
-use Rattle.ck_epoch.specs.Scan.{IsFound, is_done, gone_first, IsScanning, Did}
+use Rattle.ck_epoch.specs.Calls.{RecordLook, look_steps, scan_steps, AreInactive, AreCurrent}
+use Rattle.ck_epoch.specs.Scan.{IsFirstFound, is_done, first_dispatch, IsScanning, Did}
 use Rattle.ck_epoch.proofs.Stepping.{Steps, may_at, state_at_step, writer_holds, writer_loads, writer_finds, opened}
 use Rattle.ck_epoch.proofs.Retirements.{lt_first}
 
-scan_more : (rec : ℕ) (ls : List Looked) (l : Looked) → scan_steps rec (ls ++ l ∷ []) ≡ scan_steps rec ls ++ look_steps (rec + length ls) l
+scan_more : (rec : ℕ) (ls : List RecordLook) (l : RecordLook) → scan_steps rec (ls ++ l ∷ []) ≡ scan_steps rec ls ++ look_steps (rec + length ls) l
 scan_more rec [] l = append-nil (look_steps rec l) ∙ ap (λ (k : ℕ). look_steps k l) (omega arith)
 scan_more rec (x ∷ ls) l = ap (λ (ss : List Step). look_steps rec x ++ ss) (scan_more (rec + 1) ls l ∙ ap (λ (k : ℕ). scan_steps (rec + 1) ls ++ look_steps k l) (omega arith))
     ∙ sym (append_assoc (look_steps rec x) (scan_steps (rec + 1) ls) (look_steps (rec + length (x ∷ ls)) l))
@@ -29,20 +29,20 @@ call_more : (name : ℕ) (arguments : List ℕ) (s : Step) (ss ts : List Step) �
 call_more name arguments s ss ts = ap (λ (es : List Entry). entry (name ∷ arguments) s ∷ es) (sym (map-append further ss ts))
 
 -- what was found of the records, with one more of them
-found_inactive : (e : ℕ) (ls : List Looked) (busy : Option ℕ) (l : Looked) → l.active ≡ 0 → IsFound e ls busy → IsFound e (ls ++ l ∷ []) busy
-found_inactive e ls None l none f = All-push (λ (x : Looked). x.active ≡ 0) ls l f none
+found_inactive : (e : ℕ) (ls : List RecordLook) (busy : Option ℕ) (l : RecordLook) → l.active ≡ 0 → IsFirstFound e ls busy → IsFirstFound e (ls ++ l ∷ []) busy
+found_inactive e ls None l none f = All-push (λ (x : RecordLook). x.active ≡ 0) ls l f none
 found_inactive e ls (Some r) l none f = record {
   before = f.before;
   active = f.active;
   after = f.after ++ l ∷ [];
-  are = ap (λ (xs : List Looked). xs ++ l ∷ []) f.are ∙ append_assoc f.before (record { active = f.active; epoch = e } ∷ f.after) (l ∷ []);
+  are = ap (λ (xs : List RecordLook). xs ++ l ∷ []) f.are ∙ append_assoc f.before (record { active = f.active; epoch = e } ∷ f.after) (l ∷ []);
   at = f.at;
   inactive = f.inactive;
   is_active = f.is_active;
-  current = All-push (λ (x : Looked). x.active ≢ 0 → x.epoch ≡ e) f.after l f.current (λ active. absurd (active none));
+  current = All-push (λ (x : RecordLook). x.active ≢ 0 → x.epoch ≡ e) f.after l f.current (λ active. absurd (active none));
 }
 
-found_current : (e n : ℕ) (ls : List Looked) (busy : Option ℕ) → n ≢ 0 → IsFound e ls busy → IsFound e (ls ++ record { active = n; epoch = e } ∷ []) (first_busy busy (length ls))
+found_current : (e n : ℕ) (ls : List RecordLook) (busy : Option ℕ) → n ≢ 0 → IsFirstFound e ls busy → IsFirstFound e (ls ++ record { active = n; epoch = e } ∷ []) (first_busy busy (length ls))
 found_current e n ls None active f = record {
   before = ls;
   active = n;
@@ -51,27 +51,27 @@ found_current e n ls None active f = record {
   at = refl;
   inactive = f;
   is_active = active;
-  current = All-nil (λ (x : Looked). x.active ≢ 0 → x.epoch ≡ e);
+  current = All-nil (λ (x : RecordLook). x.active ≢ 0 → x.epoch ≡ e);
 }
 found_current e n ls (Some r) active f = record {
   before = f.before;
   active = f.active;
   after = f.after ++ record { active = n; epoch = e } ∷ [];
-  are = ap (λ (xs : List Looked). xs ++ record { active = n; epoch = e } ∷ []) f.are ∙ append_assoc f.before (record { active = f.active; epoch = e } ∷ f.after) (record { active = n; epoch = e } ∷ []);
+  are = ap (λ (xs : List RecordLook). xs ++ record { active = n; epoch = e } ∷ []) f.are ∙ append_assoc f.before (record { active = f.active; epoch = e } ∷ f.after) (record { active = n; epoch = e } ∷ []);
   at = f.at;
   inactive = f.inactive;
   is_active = f.is_active;
-  current = All-push (λ (x : Looked). x.active ≢ 0 → x.epoch ≡ e) f.after (record { active = n; epoch = e }) f.current (λ _. refl);
+  current = All-push (λ (x : RecordLook). x.active ≢ 0 → x.epoch ≡ e) f.after (record { active = n; epoch = e }) f.current (λ _. refl);
 }
 
-inactive_current : (e : ℕ) (ls : List Looked) → AreInactive ls → AreCurrent e ls
+inactive_current : (e : ℕ) (ls : List RecordLook) → AreInactive ls → AreCurrent e ls
 inactive_current e ls h k d l active = absurd (active (h k d l))
 
-are_current : (e : ℕ) (ls : List Looked) (busy : Option ℕ) → IsFound e ls busy → AreCurrent e ls
+are_current : (e : ℕ) (ls : List RecordLook) (busy : Option ℕ) → IsFirstFound e ls busy → AreCurrent e ls
 are_current e ls None f = inactive_current e ls f
 are_current e ls (Some r) f = subst (AreCurrent e) (sym f.are)
-    (All-append (λ (x : Looked). x.active ≢ 0 → x.epoch ≡ e) f.before (record { active = f.active; epoch = e } ∷ f.after) (inactive_current e f.before f.inactive)
-    (All-cons (λ (x : Looked). x.active ≢ 0 → x.epoch ≡ e) (record { active = f.active; epoch = e }) f.after (λ _. refl) f.current))
+    (All-append (λ (x : RecordLook). x.active ≢ 0 → x.epoch ≡ e) f.before (record { active = f.active; epoch = e } ∷ f.after) (inactive_current e f.before f.inactive)
+    (All-cons (λ (x : RecordLook). x.active ≢ 0 → x.epoch ≡ e) (record { active = f.active; epoch = e }) f.after (λ _. refl) f.current))
 
 -- the fields of a state that is one of two
 module _ (s : TokenState) (g : Stage) where
@@ -132,14 +132,14 @@ module _ {C : Type 0} (client : Client C) (passes : Passes client) where
         first = number_stays (program client) t u (starts n) made ∙ writing.first;
         looked = [];
         count = refl;
-        found = All-nil (λ (x : Looked). x.active ≡ 0);
+        found = All-nil (λ (x : RecordLook). x.active ≡ 0);
         steps = made.0;
         stage = ap (λ (s : TokenState). s.stage) state_is ∙ sym (ap (λ (b : Bool). cond b free (scanning polling n 0 None)) not_done);
         calls = ap (λ (s : TokenState). s.calls) state_is;
         epoch = (sym found_epoch, ap (λ (s : TokenState). s.epoch) state_is ∙ sym found_epoch);
         pending = ap (λ (s : TokenState). s.pending) state_is ∙ sym (ap (λ (b : Bool). cond b [] (off_list ((n - 2) % 4) (state t).pending)) not_done);
         dispatched = ap (λ (s : TokenState). s.dispatched) state_is
-            ∙ sym (ap (λ (b : Bool). cond b (gone_first n (state t) ++ list_by_list (off_list ((n - 2) % 4) (state t).pending)) (gone_first n (state t))) not_done);
+            ∙ sym (ap (λ (b : Bool). cond b (first_dispatch n (state t) ++ list_by_list (off_list ((n - 2) % 4) (state t).pending)) (first_dispatch n (state t))) not_done);
       }
 
   -- one record
@@ -165,8 +165,8 @@ module _ {C : Type 0} (client : Client C) (passes : Passes client) where
     still : (state u).pending ≡ items
     still = at.pending ∙ ap (λ (b : Bool). cond b [] items) going
 
-    left : (state u).dispatched ≡ gone_first e (state t)
-    left = at.dispatched ∙ ap (λ (b : Bool). cond b (gone_first e (state t) ++ list_by_list items) (gone_first e (state t))) going
+    left : (state u).dispatched ≡ first_dispatch e (state t)
+    left = at.dispatched ∙ ap (λ (b : Bool). cond b (first_dispatch e (state t) ++ list_by_list items) (first_dispatch e (state t))) going
 
     abbrev sees : ℕ → Entry
     sees n = further (Load (active_word rec) n)
@@ -176,14 +176,14 @@ module _ {C : Type 0} (client : Client C) (passes : Passes client) where
         may_at client passes u [] (Load w n) (scanning polling e rec busy) at.part (omega arith) at_record (is, subst (λ (k : ℕ). rec < k) (sym same_records) low, (refl, refl))
 
     -- after one record more
-    did_more : (v : Token C) (l : Looked) (ts : List Step) → v ≡ adding t (call poll [] (Load 0 e ∷ scan_steps 0 at.looked) ++ map further ts) → ts ≡ look_steps rec l
+    did_more : (v : Token C) (l : RecordLook) (ts : List Step) → v ≡ adding t (call poll [] (Load 0 e ∷ scan_steps 0 at.looked) ++ map further ts) → ts ≡ look_steps rec l
         → v ≡ adding t (call poll [] (Load 0 e ∷ scan_steps 0 (at.looked ++ l ∷ [])))
     did_more v l ts h is = h ∙ ap (adding t)
         (call_more poll [] (Load 0 e) (scan_steps 0 at.looked) ts
         ∙ ap (λ (ss : List Step). call poll [] (Load 0 e ∷ ss))
         (ap (λ (k : List Step). scan_steps 0 at.looked ++ k) (is ∙ ap (λ (k : ℕ). look_steps k l) (let c = at.count in omega arith)) ∙ sym (scan_more 0 at.looked l)))
 
-    one_more : (l : Looked) → length (at.looked ++ l ∷ []) ≡ rec + 1
+    one_more : (l : RecordLook) → length (at.looked ++ l ∷ []) ≡ rec + 1
     one_more l = length-append at.looked (l ∷ []) ∙ ap (λ (k : ℕ). k + 1) at.count
 
     module _ (v : Token C) (w n : ℕ) (w_is : w ≡ active_word rec) (made : Steps client u (further (Load w n)) v) where
@@ -205,7 +205,7 @@ module _ {C : Type 0} (client : Client C) (passes : Passes client) where
           let s = seen_state true (eq-eqb n 0 none) in
           let g = scanning polling e (rec + 1) busy in
           let b = is_done S (rec + 1) busy in
-          let l : Looked = record { active = n; epoch = 0 } in
+          let l : RecordLook = record { active = n; epoch = 0 } in
           record {
             part = made.1;
             first = seen_number;
@@ -248,7 +248,7 @@ module _ {C : Type 0} (client : Client C) (passes : Passes client) where
           compared_number : number z ≡ 0
           compared_number = number_stays (program client) v z (further (Load x m)) compared ∙ seen_number
 
-          abbrev l : Looked
+          abbrev l : RecordLook
           l = record { active = n; epoch = m }
 
           compared_steps : z ≡ adding t (call poll [] (Load 0 e ∷ scan_steps 0 (at.looked ++ l ∷ [])))
@@ -269,8 +269,8 @@ module _ {C : Type 0} (client : Client C) (passes : Passes client) where
                 first = compared_number;
                 looked = at.looked ++ l ∷ [];
                 count = one_more l;
-                found = subst (λ (k : ℕ). IsFound e (at.looked ++ record { active = n; epoch = k } ∷ []) busier) (sym is)
-                    (subst (λ (k : ℕ). IsFound e (at.looked ++ record { active = n; epoch = e } ∷ []) (first_busy busy k)) at.count (found_current e n at.looked busy active at.found));
+                found = subst (λ (k : ℕ). IsFirstFound e (at.looked ++ record { active = n; epoch = k } ∷ []) busier) (sym is)
+                    (subst (λ (k : ℕ). IsFirstFound e (at.looked ++ record { active = n; epoch = e } ∷ []) (first_busy busy k)) at.count (found_current e n at.looked busy active at.found));
                 steps = compared_steps;
                 stage = ap (λ (y : TokenState). y.stage) s ∙ either_stage (state v) g b;
                 calls = ap (λ (y : TokenState). y.calls) s ∙ (either_calls (state v) g b ∙ (ap (λ (y : TokenState). y.calls) c ∙ at.calls));
@@ -315,7 +315,7 @@ module _ {C : Type 0} (client : Client C) (passes : Passes client) where
           calls = at.calls;
           epoch_is = at.epoch.1;
           pending_is = at.pending ∙ ap (λ (b : Bool). cond b [] (off_list ((e - 2) % 4) (state t).pending)) done;
-          dispatched_is = at.dispatched ∙ ap (λ (b : Bool). cond b (gone_first e (state t) ++ list_by_list (off_list ((e - 2) % 4) (state t).pending)) (gone_first e (state t))) done;
+          dispatched_is = at.dispatched ∙ ap (λ (b : Bool). cond b (first_dispatch e (state t) ++ list_by_list (off_list ((e - 2) % 4) (state t).pending)) (first_dispatch e (state t))) done;
         },
       )
 
@@ -337,8 +337,8 @@ module _ {C : Type 0} (client : Client C) (passes : Passes client) where
     still_there : (state u).pending ≡ off_list ((e - 2) % 4) (state t).pending
     still_there = at.pending ∙ ap (λ (b : Bool). cond b [] (off_list ((e - 2) % 4) (state t).pending)) waits
 
-    left_there : (state u).dispatched ≡ gone_first e (state t)
-    left_there = at.dispatched ∙ ap (λ (b : Bool). cond b (gone_first e (state t) ++ list_by_list (off_list ((e - 2) % 4) (state t).pending)) (gone_first e (state t))) waits
+    left_there : (state u).dispatched ≡ first_dispatch e (state t)
+    left_there = at.dispatched ∙ ap (λ (b : Bool). cond b (first_dispatch e (state t) ++ list_by_list (off_list ((e - 2) % 4) (state t).pending)) (first_dispatch e (state t))) waits
 
     pub may_raise : (n : ℕ) → MayMake (program client) u (further (Exchange 0 e (e + 1) n))
     may_raise n = may_at client passes u [] (Exchange 0 e (e + 1) n) (scanning polling e N (Some rec)) at.part (omega arith) at_end (refl, sym (ap records_of (ap origin at.steps)), refl, refl, (refl, refl))

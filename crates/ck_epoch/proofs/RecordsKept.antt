@@ -9,7 +9,7 @@ use Rattle.ck_run.specs.Run.{index_in, Run}
 use Rattle.ck_epoch.specs.Lists.{is_on}
 use Rattle.ck_epoch.specs.State.{Task, polling, first_round, second_round, Stage, holding, inside, free, scanning, comparing, between, Retirement, TokenState, on_list, list_by_list, dispatch, dispatch_all}
 use Rattle.ck_epoch.specs.Epochs.{IsPassed}
-use Rattle.ck_epoch.specs.Held.{active_of, IsTimely, IsCurrent, IsQuiet, halfway, GuardsSection, IsOpenAt, IsRecordHeld}
+use Rattle.ck_epoch.specs.Held.{active_of, IsTimely, IsAtGlobal, IsQuiet, halfway, GuardsSection, IsOpenAt, IsRecordHeld}
 use Rattle.ck_run.proofs.Runs.{count, index_stays}
 use Rattle.ck_epoch.proofs.OpenSections.{open_else}
 use Rattle.ck_epoch.proofs.Records.{AreMade, open_along}
@@ -65,17 +65,17 @@ module _ (older : ℕ → Type 0) (x global up : ℕ) (w : TokenState) (late : A
       (All-four Younger w.pending (λ k d l o. may (get_or w.pending k d).retired.epoch (late k d l o) (low k d l)))
 
 -- a record that is inactive has no epoch, and one whose epoch is the global one has that
-idle_current : (global own : ℕ) (g : Stage) → active_of g ≡ 0 → IsTimely global own g → IsCurrent global g
+idle_current : (global own : ℕ) (g : Stage) → active_of g ≡ 0 → IsTimely global own g → IsAtGlobal global g
 idle_current global own (holding x) none t = absurd (omega arith)
 idle_current global own (inside d x) none t = let some = t.0 in absurd (omega arith)
 idle_current global own g none t = tt
 
-own_current : (global own : ℕ) (g : Stage) → own ≡ global → IsTimely global own g → IsCurrent global g
+own_current : (global own : ℕ) (g : Stage) → own ≡ global → IsTimely global own g → IsAtGlobal global g
 own_current global own (holding x) at t = let a = t.0 in let b = t.2 in omega arith
 own_current global own (inside d x) at t = sym t.1 ∙ at
 own_current global own g at t = tt
 
-timely_up : (global own : ℕ) (g : Stage) → IsCurrent global g → IsTimely global own g → IsTimely (global + 1) own g
+timely_up : (global own : ℕ) (g : Stage) → IsAtGlobal global g → IsTimely global own g → IsTimely (global + 1) own g
 timely_up global own (holding x) at t = (omega arith, omega arith, t.2)
 timely_up global own (inside d x) at t = (t.0, t.1, omega arith, omega arith)
 timely_up global own g at t = tt
@@ -141,7 +141,7 @@ module _ (past : Run) (e : Entry) (active own r : ℕ) where
   back : (o i : ℕ) → i < count past 0 → o < index_in now 0 i → o < index_in past 0 i
   back o i l h = let s = index_stays past ((0, e) ∷ []) 0 i l in omega arith
 
-  goes : (global global' : ℕ) (w w' : TokenState) (g : Stage) → AreMade (count past 0) w → global ≤ global' → (IsTimely global own g → IsTimely global' own g) → (IsPassed w'.stage r → IsCurrent global' g)
+  goes : (global global' : ℕ) (w w' : TokenState) (g : Stage) → AreMade (count past 0) w → global ≤ global' → (IsTimely global own g → IsTimely global' own g) → (IsPassed w'.stage r → IsAtGlobal global' g)
       → ((older : ℕ → Type 0) (d x : ℕ) → g ≡ inside d x → GuardsSection global older r x w → GuardsSection global' older r x w')
       → IsRecordHeld past global active own r w g → IsRecordHeld now global' active own r w' g
   goes global global' w w' g made up timely current guards h = record {
@@ -157,7 +157,7 @@ module _ (past : Run) (e : Entry) (active own r : ℕ) where
 
   -- the global epoch stays
   module _ (global : ℕ) (w : TokenState) (g : Stage) (made : AreMade (count past 0) w) (h : IsRecordHeld past global active own r w g) where
-    stays_goes : (w' : TokenState) → (IsPassed w'.stage r → IsCurrent global g)
+    stays_goes : (w' : TokenState) → (IsPassed w'.stage r → IsAtGlobal global g)
         → ((older : ℕ → Type 0) (d x : ℕ) → g ≡ inside d x → IsTimely global own (inside d x) → GuardsSection global older r x w → GuardsSection global older r x w') → IsRecordHeld now global active own r w' g
     stays_goes w' current guards = goes global global w w' g made (omega arith) (λ t. t) current (λ older d x is. guards older d x is (subst (IsTimely global own) is h.timely)) h
 
@@ -204,7 +204,7 @@ module _ (past : Run) (e : Entry) (active own r : ℕ) where
   -- a scan
   module _ (global : ℕ) (w : TokenState) (g : Stage) (task : Task) (e' rec : ℕ) (busy : Option ℕ) (made : AreMade (count past 0) (at_stage w (scanning task e' rec busy)))
       (h : IsRecordHeld past global active own r (at_stage w (scanning task e' rec busy)) g) (n : ℕ) where
-    current_next : (r ≡ rec → IsCurrent global g) → r < rec + 1 → IsCurrent global g
+    current_next : (r ≡ rec → IsAtGlobal global g) → r < rec + 1 → IsAtGlobal global g
     current_next here l = dite (ℕ_discrete r rec) (λ is. here is) (λ ne. h.current (omega arith))
 
     -- the record was found inactive
@@ -267,14 +267,14 @@ module _ (past : Run) (e : Entry) (active own r : ℕ) where
 
   -- the global epoch rises: each section that the scan passed is at the old one
   module _ (global : ℕ) (w : TokenState) (g : Stage) (e' records : ℕ) (busy : Option ℕ) (inside_ : r < records) (n : ℕ) where
-    rises_timely : IsCurrent global g → IsTimely global own g → IsTimely (global + 1) own g
+    rises_timely : IsAtGlobal global g → IsTimely global own g → IsTimely (global + 1) own g
     rises_timely = timely_up global own g
 
     pub raises : e' ≡ global → 4 ≤ global → All (Bounded global 0) w.pending → AreMade (count past 0) (at_stage w (scanning polling e' records busy))
         → IsRecordHeld past global active own r (at_stage w (scanning polling e' records busy)) g → IsRecordHeld now (global + 1) active own r (record (dispatch (e' - 1) w) { stage = free; epoch = e' + 1; steps = n }) g
     raises is late low made h = let cur = h.current inside_ in goes global (global + 1) (at_stage w (scanning polling e' records busy)) (record (dispatch (e' - 1) w) { stage = free; epoch = e' + 1; steps = n }) g made (omega arith)
         (rises_timely cur) (λ p. absurd p)
-        (λ older d x inner b. let at : x ≡ global = subst (IsCurrent global) inner cur in record {
+        (λ older d x inner b. let at : x ≡ global = subst (IsAtGlobal global) inner cur in record {
           pending = All-filter (λ (k : Retirement). not (is_on ((e' - 1) % 4) k.retired)) (λ (k : Retirement). older k.number → x ≤ k.retired.epoch) w.pending b.pending;
           dispatched = list_goes older x global 0 w b.pending b.dispatched low ((e' - 1) % 4)
               (λ y same above below. let q : y ≤ global - 1 = one_back y global (omega arith) late (same ∙ ap (λ (m : ℕ). (m - 1) % 4) is) in omega arith);
@@ -288,7 +288,7 @@ module _ (past : Run) (e : Entry) (active own r : ℕ) where
         → IsRecordHeld past global active own r (at_stage w (scanning (first_round all started) e' records busy)) g → IsRecordHeld now (global + 1) active own r (record w { stage = between all started; epoch = e' + 1; steps = n }) g
     raises_first all started made h = let cur = h.current inside_ in goes global (global + 1) (at_stage w (scanning (first_round all started) e' records busy)) (record w { stage = between all started; epoch = e' + 1; steps = n }) g made (omega arith)
         (rises_timely cur) (λ p. absurd p)
-        (λ older d x inner b. let at : x ≡ global = subst (IsCurrent global) inner cur in record {
+        (λ older d x inner b. let at : x ≡ global = subst (IsAtGlobal global) inner cur in record {
           pending = b.pending;
           dispatched = b.dispatched;
           quiet = λ q. absurd q;
@@ -304,7 +304,7 @@ module _ (past : Run) (e : Entry) (active own r : ℕ) where
     raises_second all started low made h = let cur = h.current inside_ in
         goes global (global + 1) (at_stage w (scanning (second_round all started) e' records busy)) (record (cond all (dispatch_all w) w) { stage = free; epoch = e' + 1; waited = Some started; steps = n }) g made (omega arith)
         (rises_timely cur) (λ p. absurd p)
-        (λ older d x inner b. let at : x ≡ global = subst (IsCurrent global) inner cur in let half : older started → x + 1 ≤ global = b.half started refl in
+        (λ older d x inner b. let at : x ≡ global = subst (IsAtGlobal global) inner cur in let half : older started → x + 1 ≤ global = b.half started refl in
         second_guards older x at all b half)
         h
       where

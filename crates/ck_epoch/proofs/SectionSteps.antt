@@ -10,7 +10,7 @@ use Rattle.ck_run.specs.Tokens.{adding, number, origin, MayMake}
 use Rattle.ck_run.proofs.Moments.{origin_stays, number_stays, adds_one}
 use Rattle.ck_epoch.specs.State.{Origin, Token, TokenState, Stage, outside, entering, holding, inside, base, base_of, records_of, active_word, epoch_word, begin, end, at_depth, next, MayStep, state}
 use Rattle.ck_epoch.specs.Client.{Client, Passes, program}
-use Rattle.ck_epoch.specs.Ends.{IsInRun, IsPass}
+use Rattle.ck_epoch.specs.Ends.{IsDomainToken, IsPass}
 use Rattle.ck_epoch.proofs.Stepping.{Steps, may_epochs, state_after_step, pass_holds}
 
 lt_yes : (a b : ℕ) → a < b → nat_lt a b ≡ true
@@ -26,7 +26,7 @@ low_epoch r n l = omega arith
 module _ {C : Type 0} (client : Client C) (passes : Passes client) where
   -- a token that went on from t, and has this state
   record Went (t u : Token C) (s : TokenState) : Type 0 where
-    part : IsInRun client u
+    part : IsDomainToken client u
     same : origin u ≡ origin t
     number : number u ≡ number t
     state : state u ≡ s
@@ -45,11 +45,11 @@ module _ {C : Type 0} (client : Client C) (passes : Passes client) where
   may_go t u opens p s i low may = may_epochs client passes u opens p i.part (subst (λ (o : Origin C). word_of p < base_of o) (sym i.same) low)
       (subst (λ (o : Origin C). MayStep (records_of o) (state u) opens [] (state u).stage p) (sym i.same) (subst (λ (x : TokenState). MayStep (records_of (origin t)) x opens [] x.stage p) (sym i.state) may))
 
-  stays : (t : Token C) → IsInRun client t → Went t t (state t)
+  stays : (t : Token C) → IsDomainToken client t → Went t t (state t)
   stays t p = record { part = p; same = refl; number = refl; state = refl }
 
   -- where the stage is known
-  at_stage : (t : Token C) (g : Stage) → IsInRun client t → (state t).stage ≡ g → Went t t (record (state t) { stage = g })
+  at_stage : (t : Token C) (g : Stage) → IsDomainToken client t → (state t).stage ≡ g → Went t t (record (state t) { stage = g })
   at_stage t g p is = record { part = p; same = refl; number = refl; state = ap (λ (h : Stage). record (state t) { stage = h }) is }
 
   -- `begin`, of a pass that has no section open

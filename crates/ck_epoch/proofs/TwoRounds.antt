@@ -17,9 +17,9 @@ use Rattle.ck_epoch.specs.Epochs.{IsOpen}
 use Rattle.ck_epoch.specs.Held.{IsScan}
 use Rattle.ck_epoch.specs.Client.{Client, Passes, program}
 use Rattle.ck_epoch.specs.Lists.{Backlog, AreListsOf, AreRetired}
-use Rattle.ck_epoch.specs.Ends.{IsInRun, IsWriter as IsBetween}
-use Rattle.ck_epoch.specs.Calls.{Looked}
-use Rattle.ck_epoch.specs.Rounds.{wait_steps, IsWait, waits_steps, IsRound, IsWaiting, name_of, after_rounds, Rounds, HaveEnded, IsInRound, ScansOn, IsFree}
+use Rattle.ck_epoch.specs.Ends.{IsDomainToken, IsWriter as IsBetween}
+use Rattle.ck_epoch.specs.Calls.{RecordLook}
+use Rattle.ck_epoch.specs.Rounds.{wait_steps, IsWait, waits_steps, IsRound, IsWaiting, name_of, after_rounds, Rounds, HaveEnded, IsInRound, ScansOn, IsWriterFree}
 use Rattle.ck_epoch.proofs.Stepping.{Steps, may_epochs, state_after_step}
 use Rattle.ck_epoch.proofs.EpochLaw.{held_after, has_waited}
 use Rattle.ck_run.proofs.Runs.{count, index_stays, index_below, cut}
@@ -27,7 +27,7 @@ use Rattle.ck_epoch.proofs.OpenSections.{was_open}
 use Rattle.ck_epoch.proofs.Moments.{writer_knows, loads_global, finds_global}
 use Rattle.ck_epoch.proofs.Waits.{HasPassed, next_at, may_at, scans_both, scans_none, adds_none}
 
-waits_snoc : (rec : ℕ) (waits : List (List Looked)) (looks : List Looked) → waits_steps rec (waits ++ looks ∷ []) ≡ waits_steps rec waits ++ wait_steps (rec + length waits) looks
+waits_snoc : (rec : ℕ) (waits : List (List RecordLook)) (looks : List RecordLook) → waits_steps rec (waits ++ looks ∷ []) ≡ waits_steps rec waits ++ wait_steps (rec + length waits) looks
 waits_snoc rec [] looks = append-nil (wait_steps rec looks) ∙ ap (λ (k : ℕ). wait_steps k looks) (omega arith)
 waits_snoc rec (w ∷ ws) looks = ap (λ (z : List Step). wait_steps rec w ++ z) (waits_snoc (rec + 1) ws looks ∙ ap (λ (k : ℕ). waits_steps (rec + 1) ws ++ wait_steps k looks) (omega arith))
     ∙ sym (append_assoc (wait_steps rec w) (waits_steps (rec + 1) ws) (wait_steps (rec + length (w ∷ ws)) looks))
@@ -44,7 +44,7 @@ pub record HasWaited {C : Type 0} (client : Client C) (e rec : ℕ) (t0 t : Toke
   pub same : table t ≡ table t0
   pub scans : IsInRound client e rec t
   pub on : ScansOn e 0 rec t0 t
-  pub waits : List (List Looked)
+  pub waits : List (List RecordLook)
   pub count : length waits ≡ rec
   pub each : All (IsWait e) waits
   pub did : t ≡ adding t0 (map further (waits_steps 0 waits))
@@ -68,7 +68,7 @@ module _ {C : Type 0} (client : Client C) (e : ℕ) where
   }
 
 module _ {C : Type 0} (client : Client C) (passes : Passes client) where
-  in_epochs : (t : Token C) → IsInRun client t → IsAt epochs t (state t)
+  in_epochs : (t : Token C) → IsDomainToken client t → IsAt epochs t (state t)
   in_epochs t p = record { part = part_weaker (program client) (follows_of epochs) (origin t) t.view.own (λ n es h. h.0) p; state = refl }
 
   -- the number of an epoch is small
@@ -153,7 +153,7 @@ raised_twice false s e n k m is = λ i. record (after_rounds false s m) { epoch 
     twice = omega arith
 
 -- The call up to its first round, by the token t
-module _ {C : Type 0} (client : Client C) (passes : Passes client) (t : Token C) (f : IsFree client t) (all : Bool) (opens : List ℕ) (name : opens ≡ name_of all ∷ []) where
+module _ {C : Type 0} (client : Client C) (passes : Passes client) (t : Token C) (f : IsWriterFree client t) (all : Bool) (opens : List ℕ) (name : opens ≡ name_of all ∷ []) where
   abbrev S : TokenState
   S = state t
 
@@ -180,7 +180,7 @@ module _ {C : Type 0} (client : Client C) (passes : Passes client) (t : Token C)
     }
 
     -- the token w after the first round
-    module _ (w : Token C) (first : List Step) (did_first : w ≡ adding u (map further first)) (part : IsInRun client w)
+    module _ (w : Token C) (first : List Step) (did_first : w ≡ adding u (map further first)) (part : IsDomainToken client w)
         (raised : (task : Task) → IsWaiting task → (busy : Option ℕ) → (state u).stage ≡ scanning task e 0 busy → state w ≡ record (after_raise (state u) task e) { steps = (state w).steps }) where
       halfway : state w ≡ record S { stage = between all S.steps; calls = S.calls + 1; epoch = e + 1; steps = (state w).steps }
       halfway = raised (first_round all S.steps) tt None (ap (λ (s : TokenState). s.stage) begun) ∙ ap (λ (s : TokenState). record (after_raise s (first_round all S.steps) e) { steps = (state w).steps }) begun
@@ -236,7 +236,7 @@ module _ {C : Type 0} (client : Client C) (passes : Passes client) (t : Token C)
           )
 
 -- after both rounds no section is open that was open at the call
-pub have_ended : {C : Type 0} (client : Client C) (passes : Passes client) (t u : Token C) (n : ℕ) (all : Bool) → IsFree client t → origin u ≡ origin t → number u ≡ 0 → state u ≡ after_rounds all (state t) n → HaveEnded client t u
+pub have_ended : {C : Type 0} (client : Client C) (passes : Passes client) (t u : Token C) (n : ℕ) (all : Bool) → IsWriterFree client t → origin u ≡ origin t → number u ≡ 0 → state u ≡ after_rounds all (state t) n → HaveEnded client t u
 have_ended client passes t u n all f same first is past rest more run made r o low open_ older =
     let org = origin t in
     let k = cut 0 past (did u) more made in
@@ -254,10 +254,10 @@ have_ended client passes t u n all f same first is past rest more run made r o l
 
 -- the writer between two calls, before and after two rounds
 module _ {C : Type 0} (client : Client C) (t : Token C) (b : Backlog) (w : IsBetween client t b) where
-  pub is_free : (calls : ℕ) → (state t).calls ≤ calls → calls < 2 ^ 40 → IsFree client t
+  pub is_free : (calls : ℕ) → (state t).calls ≤ calls → calls < 2 ^ 40 → IsWriterFree client t
   is_free calls counts few = record { part = w.part; first = w.first; stage = w.stage; few = omega arith }
 
-  module _ (u : Token C) (all : Bool) (n : ℕ) (part : IsInRun client u) (same : table u ≡ table t) (number_is : number u ≡ number t) (is : state u ≡ after_rounds all (state t) n) where
+  module _ (u : Token C) (all : Bool) (n : ℕ) (part : IsDomainToken client u) (same : table u ≡ table t) (number_is : number u ≡ number t) (is : state u ≡ after_rounds all (state t) n) where
     calls_after : (a : Bool) → (after_rounds a (state t) n).calls ≡ (state t).calls + 1
     calls_after a = refl
 

@@ -10,9 +10,9 @@ use Rattle.ck_run.proofs.Moments.{table_stays, number_stays, adds_one}
 use Rattle.ck_epoch.specs.declared.about.About.{About}
 use Rattle.ck_epoch.specs.State.{active_word, epoch_word, Task, polling, first_round, second_round, Stage, free, scanning, comparing, TokenState, first_busy, is_clear, dispatch_all, after_record, after_blocked, after_step, next, MayStep, May, Origin, Token, records_of, state}
 use Rattle.ck_epoch.specs.Client.{Client, Passes, program}
-use Rattle.ck_epoch.specs.Ends.{IsInRun}
-use Rattle.ck_epoch.specs.Calls.{Looked, look_steps}
-use Rattle.ck_epoch.specs.Rounds.{wait_steps, IsPast, IsWait, IsWaiting, IsInRound, ScansOn}
+use Rattle.ck_epoch.specs.Ends.{IsDomainToken}
+use Rattle.ck_epoch.specs.Calls.{RecordLook, look_steps}
+use Rattle.ck_epoch.specs.Rounds.{wait_steps, LetsPass, IsWait, IsWaiting, IsInRound, ScansOn}
 use Rattle.ck_epoch.proofs.Stepping.{Steps, may_epochs, state_after_step}
 
 never_clear : (task : Task) → IsWaiting task → (b : Bool) (busy : Option ℕ) → (b && is_clear task busy) ≡ false
@@ -44,7 +44,7 @@ with_steps s s' g n e = e ∙ λ i. record s { stage = g; steps = ap (λ (x : To
 
 module _ {C : Type 0} (client : Client C) where
   -- a token that goes on within a scan is within it
-  scans_there : (e from to : ℕ) (t u : Token C) → IsInRound client e from t → IsInRun client u → number u ≡ number t → ScansOn e from to t u → IsInRound client e to u
+  scans_there : (e from to : ℕ) (t u : Token C) → IsInRound client e from t → IsDomainToken client u → number u ≡ number t → ScansOn e from to t u → IsInRound client e to u
   scans_there e from to t u i part same on = let r = on i.task i.waits i.busy i.stage in record {
     part = part;
     first = same ∙ i.first;
@@ -64,11 +64,11 @@ module _ {C : Type 0} (client : Client C) where
   pub scans_none : (e rec : ℕ) (t : Token C) → ScansOn e rec rec t t
   scans_none e rec t task w busy is = (busy, λ i. record (state t) { stage = is i })
 
-wait_snoc : (rec : ℕ) (before : List Looked) (l : Looked) → wait_steps rec (before ++ l ∷ []) ≡ wait_steps rec before ++ look_steps rec l
+wait_snoc : (rec : ℕ) (before : List RecordLook) (l : RecordLook) → wait_steps rec (before ++ l ∷ []) ≡ wait_steps rec before ++ look_steps rec l
 wait_snoc rec [] l = append-nil (look_steps rec l)
 wait_snoc rec (x ∷ xs) l = ap (λ (z : List Step). look_steps rec x ++ z) (wait_snoc rec xs l) ∙ sym (append_assoc (look_steps rec x) (wait_steps rec xs) (look_steps rec l))
 
-looked : ℕ → ℕ → Looked
+looked : ℕ → ℕ → RecordLook
 looked active epoch = record { active = active; epoch = epoch }
 
 look_inactive : (rec active epoch : ℕ) → active ≡ 0 → look_steps rec (record { active = active; epoch = epoch }) ≡ Load (active_word rec) active ∷ []
@@ -82,10 +82,10 @@ adds_none t i = record t { view = record t.view { own = record t.view.own { entr
 
 module _ {C : Type 0} where
   -- the token after these looks at the record
-  abbrev pub Looks : ℕ → List Looked → Token C → Token C → Type 0
+  abbrev pub Looks : ℕ → List RecordLook → Token C → Token C → Type 0
   Looks rec looks t u = u ≡ adding t (map further (wait_steps rec looks))
 
-  looks_more : (rec : ℕ) (before : List Looked) (l : Looked) (t v : Token C) (steps : List Step) → look_steps rec l ≡ steps → v ≡ adding t (map further (wait_steps rec before) ++ map further steps) → Looks rec (before ++ l ∷ []) t v
+  looks_more : (rec : ℕ) (before : List RecordLook) (l : RecordLook) (t v : Token C) (steps : List Step) → look_steps rec l ≡ steps → v ≡ adding t (map further (wait_steps rec before) ++ map further steps) → Looks rec (before ++ l ∷ []) t v
   looks_more rec before l t v steps is e = e ∙ ap (adding t)
       (sym (map-append further (wait_steps rec before) steps) ∙ ap (map further) (ap (λ (z : List Step). wait_steps rec before ++ z) (sym is) ∙ sym (wait_snoc rec before l)))
 
@@ -124,7 +124,7 @@ module _ {C : Type 0} (client : Client C) (passes : Passes client) (e rec : ℕ)
       pub there_inactive : IsInRound client e (rec + 1) u
       there_inactive = scans_there client e rec (rec + 1) t u i made.1 same_number on_inactive
 
-      pub waits_inactive : (before : List Looked) → All (λ (l : Looked). ¬ IsPast e l) before → Looks rec before t0 t → (looks : List Looked) × IsWait e looks × Looks rec looks t0 u
+      pub waits_inactive : (before : List RecordLook) → All (λ (l : RecordLook). ¬ LetsPass e l) before → Looks rec before t0 t → (looks : List RecordLook) × IsWait e looks × Looks rec looks t0 u
       waits_inactive before others so_far = let l = looked active 0 in (
         before ++ record { active = active; epoch = 0 } ∷ [],
         (before, record { active = active; epoch = 0 }, refl, others, inl none),
@@ -182,23 +182,23 @@ module _ {C : Type 0} (client : Client C) (passes : Passes client) (e rec : ℕ)
         pub there_other : found ≢ e → IsInRound client e rec v
         there_other other = scans_there client e rec rec t v i made'.1 number_too (on_other other)
 
-        abbrev look : Looked
+        abbrev look : RecordLook
         look = record { active = active; epoch = found }
 
-        looks_now : (before : List Looked) → Looks rec before t0 t → Looks rec (before ++ look ∷ []) t0 v
+        looks_now : (before : List RecordLook) → Looks rec before t0 t → Looks rec (before ++ look ∷ []) t0 v
         looks_now before so_far = looks_more rec before look t0 v (active_load active ∷ epoch_load found ∷ []) (look_active rec active found some_)
             (adds_one (program client) t0 u v (map further (wait_steps rec before) ++ further (active_load active) ∷ []) (further (epoch_load found))
             (adds_one (program client) t0 t u (map further (wait_steps rec before)) (further (active_load active)) so_far made) made'
             ∙ ap (adding t0) (append_assoc (map further (wait_steps rec before)) (further (active_load active) ∷ []) (further (epoch_load found) ∷ [])))
 
-        pub waits_current : found ≡ e → (before : List Looked) → All (λ (l : Looked). ¬ IsPast e l) before → Looks rec before t0 t → (looks : List Looked) × IsWait e looks × Looks rec looks t0 v
+        pub waits_current : found ≡ e → (before : List RecordLook) → All (λ (l : RecordLook). ¬ LetsPass e l) before → Looks rec before t0 t → (looks : List RecordLook) × IsWait e looks × Looks rec looks t0 v
         waits_current same before others so_far = (before ++ look ∷ [], (before, look, refl, others, inr same), looks_now before so_far)
 
-        pub waits_other : found ≢ e → (before : List Looked) → All (λ (l : Looked). ¬ IsPast e l) before → Looks rec before t0 t
-            → (looks : List Looked) × All (λ (l : Looked). ¬ IsPast e l) looks × Looks rec looks t0 v
+        pub waits_other : found ≢ e → (before : List RecordLook) → All (λ (l : RecordLook). ¬ LetsPass e l) before → Looks rec before t0 t
+            → (looks : List RecordLook) × All (λ (l : RecordLook). ¬ LetsPass e l) looks × Looks rec looks t0 v
         waits_other other before others so_far = (
           before ++ look ∷ [],
-          All-push (λ (l : Looked). ¬ IsPast e l) before look others (λ p. ⊎_elim (λ (z : active ≡ 0). some_ z) (λ (z : found ≡ e). other z) p),
+          All-push (λ (l : RecordLook). ¬ LetsPass e l) before look others (λ p. ⊎_elim (λ (z : active ≡ 0). some_ z) (λ (z : found ≡ e). other z) p),
           looks_now before so_far,
         )
 
@@ -210,19 +210,19 @@ pub record HasLooked {C : Type 0} (client : Client C) (e rec : ℕ) (t0 t : Toke
   pub same : table t ≡ table t0
   pub scans : IsInRound client e rec t
   pub on : ScansOn e rec rec t0 t
-  pub looks : List Looked
-  pub others : All (λ (l : Looked). ¬ IsPast e l) looks
+  pub looks : List RecordLook
+  pub others : All (λ (l : RecordLook). ¬ LetsPass e l) looks
   pub did : Looks rec looks t0 t
 
 -- and then it passed the record
 pub record HasPassed {C : Type 0} (client : Client C) (e rec : ℕ) (t0 t : Token C) : Type 0 where
   pub same : table t ≡ table t0
-  pub did : (looks : List Looked) × IsWait e looks × Looks rec looks t0 t
+  pub did : (looks : List RecordLook) × IsWait e looks × Looks rec looks t0 t
   pub scans : IsInRound client e (rec + 1) t × ScansOn e rec (rec + 1) t0 t
 
 module _ {C : Type 0} (client : Client C) (passes : Passes client) (e rec : ℕ) where
   pub not_looked : (t : Token C) → IsInRound client e rec t → HasLooked client e rec t t
-  not_looked t i = record { same = refl; scans = i; on = scans_none client e rec t; looks = []; others = All-nil (λ (l : Looked). ¬ IsPast e l); did = adds_none t }
+  not_looked t i = record { same = refl; scans = i; on = scans_none client e rec t; looks = []; others = All-nil (λ (l : RecordLook). ¬ LetsPass e l); did = adds_none t }
 
   module _ (t0 t : Token C) (h : HasLooked client e rec t0 t) (low : rec < records_of (origin t)) (word : ℕ) (is : word ≡ active_word rec) where
     pub may_look : (n : ℕ) → MayMake (program client) t (further (Load word n))

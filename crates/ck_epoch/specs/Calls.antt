@@ -14,31 +14,31 @@ use Rattle.ck_epoch.specs.Lists.{on, off, by_list}
 use Rattle.ck_epoch.specs.Client.{Client}
 
 -- What a poll loaded of a record: its active word and, where that isn't 0, its epoch word
-pub record Looked : Type 0 where
+pub record RecordLook : Type 0 where
   pub active : ℕ
   pub epoch : ℕ
 
-abbrev pub look_steps : ℕ → Looked → List Step
+abbrev pub look_steps : ℕ → RecordLook → List Step
 look_steps rec l = Load (active_word rec) l.active ∷ cond (l.active == 0) [] (Load (epoch_word rec) l.epoch ∷ [])
 
 -- of the records from `rec` on, in order
-abbrev pub scan_steps : ℕ → List Looked → List Step
+abbrev pub scan_steps : ℕ → List RecordLook → List Step
 scan_steps rec [] = []
 scan_steps rec (l ∷ ls) = look_steps rec l ++ scan_steps (rec + 1) ls
 
 -- none of these records was active
-abbrev pub AreInactive : List Looked → Type 0
-AreInactive ls = All (λ (l : Looked). l.active ≡ 0) ls
+abbrev pub AreInactive : List RecordLook → Type 0
+AreInactive ls = All (λ (l : RecordLook). l.active ≡ 0) ls
 
 -- each of these that was active had this epoch
-abbrev pub AreCurrent : ℕ → List Looked → Type 0
-AreCurrent e ls = All (λ (l : Looked). l.active ≢ 0 → l.epoch ≡ e) ls
+abbrev pub AreCurrent : ℕ → List RecordLook → Type 0
+AreCurrent e ls = All (λ (l : RecordLook). l.active ≢ 0 → l.epoch ≡ e) ls
 
 -- Of these records `rec` is the first that was active, and each that was active had the epoch e
-pub record FirstActive (e rec : ℕ) (looked : List Looked) : Type 0 where
-  pub before : List Looked
+pub record FirstActive (e rec : ℕ) (looked : List RecordLook) : Type 0 where
+  pub before : List RecordLook
   pub active : ℕ
-  pub after : List Looked
+  pub after : List RecordLook
   pub are : looked ≡ before ++ record { active = active; epoch = e } ∷ after
   pub at : length before ≡ rec
   pub inactive : AreInactive before
@@ -46,16 +46,16 @@ pub record FirstActive (e rec : ℕ) (looked : List Looked) : Type 0 where
   pub current : AreCurrent e after
 
 -- what a poll that loaded the global epoch e dispatches of the pending items, in this order
-abbrev pub gone : ℕ → Poll → List Retired → List Retired
-gone e (Clear n) pending = on ((e - 2) % 4) pending ++ by_list (off ((e - 2) % 4) pending)
-gone e (Moved n rec) pending = on ((e - 2) % 4) pending ++ on ((e - 1) % 4) (off ((e - 2) % 4) pending)
-gone e (Blocked n rec epoch) pending = on ((e - 2) % 4) pending
+abbrev pub dispatched_items : ℕ → Poll → List Retired → List Retired
+dispatched_items e (Clear n) pending = on ((e - 2) % 4) pending ++ by_list (off ((e - 2) % 4) pending)
+dispatched_items e (Moved n rec) pending = on ((e - 2) % 4) pending ++ on ((e - 1) % 4) (off ((e - 2) % 4) pending)
+dispatched_items e (Blocked n rec epoch) pending = on ((e - 2) % 4) pending
 
 -- and what stays pending
-abbrev pub kept : ℕ → Poll → List Retired → List Retired
-kept e (Clear n) pending = []
-kept e (Moved n rec) pending = off ((e - 1) % 4) (off ((e - 2) % 4) pending)
-kept e (Blocked n rec epoch) pending = off ((e - 2) % 4) pending
+abbrev pub pending_after : ℕ → Poll → List Retired → List Retired
+pending_after e (Clear n) pending = []
+pending_after e (Moved n rec) pending = off ((e - 1) % 4) (off ((e - 2) % 4) pending)
+pending_after e (Blocked n rec epoch) pending = off ((e - 2) % 4) pending
 
 -- how many it tells
 abbrev pub count_of : Poll → ℕ
@@ -80,22 +80,22 @@ module _ {C : Type 0} where
       × (0 < depth t → u ≡ adding t (call begin [] (Store (active_word (rec_of t)) (depth t + 1) ∷ [])))
 
   -- A poll that loaded the global epoch e found no record active
-  pub record FindsNone (records e : ℕ) (t u : Token C) : Type 0 where
-    pub looked : List Looked
+  pub record FindsNoneActive (records e : ℕ) (t u : Token C) : Type 0 where
+    pub looked : List RecordLook
     pub all : length looked ≡ records
     pub inactive : AreInactive looked
     pub steps : u ≡ adding t (call poll [] (Load 0 e ∷ scan_steps 0 looked))
 
   -- It found some record active, of which `rec` is the first, and each such had the epoch e, from which the global one rose
   pub record Moves (records e rec : ℕ) (t u : Token C) : Type 0 where
-    pub looked : List Looked
+    pub looked : List RecordLook
     pub all : length looked ≡ records
     pub found : FirstActive e rec looked
     pub steps : u ≡ adding t (call poll [] (Load 0 e ∷ scan_steps 0 looked ++ Exchange 0 e (e + 1) e ∷ []))
 
   -- It found `rec` active with another epoch, and each active record before it with e
   pub record IsBlocked (e rec epoch : ℕ) (t u : Token C) : Type 0 where
-    pub before : List Looked
+    pub before : List RecordLook
     pub active : ℕ
     pub at : length before ≡ rec
     pub current : AreCurrent e before
@@ -105,7 +105,7 @@ module _ {C : Type 0} where
 
   -- what a poll did, by its answer
   abbrev pub Polls : ℕ → ℕ → Token C → Poll → Token C → Type 0
-  Polls records e t (Clear n) u = FindsNone records e t u
+  Polls records e t (Clear n) u = FindsNoneActive records e t u
   Polls records e t (Moved n rec) u = Moves records e rec t u
   Polls records e t (Blocked n rec epoch) u = IsBlocked e rec epoch t u
 

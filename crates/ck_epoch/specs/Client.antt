@@ -54,17 +54,17 @@ module _ {C : Type 0} (client : Client C) where
   AnsweredRises = (first : ℕ) (origin : Origin C) (es : List Entry) (e : Entry) → client.answered first origin es ≤ client.answered first origin (es ++ e ∷ [])
 
   -- the words from `first` on are its words at opening
-  abbrev pub IsPlaced : ℕ → Origin C → Type 0
-  IsPlaced first origin = (i : ℕ) → i < client.size origin.config.client → slice_index origin.words (first + i) ≡ client.first origin.config.client i
+  abbrev pub AreOpeningWords : ℕ → Origin C → Type 0
+  AreOpeningWords first origin = (i : ℕ) → i < client.size origin.config.client → slice_index origin.words (first + i) ≡ client.first origin.config.client i
 
   -- tokens that made no step are its own
   abbrev pub Starts : Type 0
-  Starts = (first : ℕ) (origin : Origin C) → IsPlaced first origin → (n : ℕ) → client.follows first origin n []
+  Starts = (first : ℕ) (origin : Origin C) → AreOpeningWords first origin → (n : ℕ) → client.follows first origin n []
 
   -- its words come after those of the epochs
   pub record IsClientOpening (origin : Origin C) : Type 0 where
     pub long : length origin.words ≡ base_of origin + client.size origin.config.client
-    pub words : IsPlaced (base_of origin) origin
+    pub words : AreOpeningWords (base_of origin) origin
 
   -- a load of a guarded word stands within a section
   abbrev pub IsGuarded : Origin C → TokenState → Entry → Type 0

@@ -20,8 +20,8 @@ module _ {C : Type 0} where
   AreOpening client origin = IsOpening origin × IsClientOpening client origin
 
   -- passes that made no step, whose tokens are numbered from n, in order
-  abbrev pub AreFresh : Table (About C) → ℕ → List (Pass C) → Type 0
-  AreFresh table = EachFrom (λ n p. p ≡ record { token = fresh table n; calls = 0; tally = 0 })
+  abbrev pub AreFreshPasses : Table (About C) → ℕ → List (Pass C) → Type 0
+  AreFreshPasses table = EachFrom (λ n p. p ≡ record { token = fresh table n; calls = 0; tally = 0 })
 
   -- The accounts of the writer and of these passes are the parts of one true run of the domain's calls, which is safe. It leaves these words
   -- of the client's

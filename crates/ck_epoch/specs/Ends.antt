@@ -26,23 +26,23 @@ pub record Pass (C : Type 0) : Type 0 where
 
 module _ {C : Type 0} (client : Client C) where
   -- the account of the token is a part of a true run of the calls of a domain
-  abbrev pub IsInRun : Token C → Type 0
-  IsInRun t = IsPart (program client) (origin t) t.view.own
+  abbrev pub IsDomainToken : Token C → Type 0
+  IsDomainToken t = IsPart (program client) (origin t) t.view.own
 
   -- the writer's token, and that of a pass, in a true run. This much a caller may use where it shows that the client allows a step
   pub record IsWriting (t : Token C) : Type 0 where
-    pub part : IsInRun t
+    pub part : IsDomainToken t
     pub first : number t ≡ 0
 
   pub record IsReading (t : Token C) : Type 0 where
-    pub part : IsInRun t
+    pub part : IsDomainToken t
     pub rec : ℕ
     pub other : number t ≡ suc rec
     pub low : rec < records_of (origin t)
 
   -- the writer between two calls. The items on its lists are those that its account tells of
   pub record IsWriter (t : Token C) (b : Backlog) : Type 0 where
-    pub part : IsInRun t
+    pub part : IsDomainToken t
     pub first : number t ≡ 0
     pub stage : (state t).stage ≡ free
     pub pending : AreListsOf b.lists (queue (state t).pending)
@@ -50,7 +50,7 @@ module _ {C : Type 0} (client : Client C) where
 
   -- a pass between two calls
   pub record IsPass (t : Token C) (rec depth : ℕ) : Type 0 where
-    pub part : IsInRun t
+    pub part : IsDomainToken t
     pub other : number t ≡ suc rec
     pub low : rec < records_of (origin t)
     pub stage : (g : ℕ) × ((state t).stage ≡ at_depth depth g)

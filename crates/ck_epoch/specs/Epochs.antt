@@ -10,17 +10,17 @@ use Rattle.ck_run.specs.Machine.{follows_of}
 use Rattle.ck_epoch.specs.State.{active_word, epoch_word, Stage, holding, scanning, comparing, depth_of, Retirement, retirement, TokenState, on_list, Origin, records_of, epochs, state_at}
 
 -- The step o of the run opens a section of the record r: its pass stores the record's epoch
-abbrev pub Opens : Run → ℕ → ℕ → Type 0
-Opens run r o = (e : Entry) × (g : ℕ) × (get_elem? run o ≡ some (suc r, e)) × (e.step ≡ Store (epoch_word r) g)
+abbrev pub OpensSection : Run → ℕ → ℕ → Type 0
+OpensSection run r o = (e : Entry) × (g : ℕ) × (get_elem? run o ≡ some (suc r, e)) × (e.step ≡ Store (epoch_word r) g)
 
 -- The step c ends it: its pass stores 0 in active
-abbrev pub Ends : Run → ℕ → ℕ → Type 0
-Ends run r c = (e : Entry) × (get_elem? run c ≡ some (suc r, e)) × (e.step ≡ Store (active_word r) 0)
+abbrev pub EndsSection : Run → ℕ → ℕ → Type 0
+EndsSection run r c = (e : Entry) × (get_elem? run c ≡ some (suc r, e)) × (e.step ≡ Store (active_word r) 0)
 
 -- A section of the record r opened at the step o, and no step of the run after it ended it
 pub record IsOpen (run : Run) (r o : ℕ) : Type 0 where
-  pub opens : Opens run r o
-  pub lasts : (c : ℕ) → o < c → Ends run r c → ⊥
+  pub opens : OpensSection run r o
+  pub lasts : (c : ℕ) → o < c → EndsSection run r c → ⊥
 
 -- The section that opened at the step o is older than the writer's entry of this number, as an item's retirement or the first step of a call
 abbrev pub IsOlder : Run → ℕ → ℕ → Type 0

@@ -33,10 +33,10 @@ IsTimely global own (inside d g) = (0 < d) × (own ≡ g) × (g ≤ global) × (
 IsTimely global own g = Unit {0}
 
 -- the epoch that a pass loaded or stored is the global one
-abbrev pub IsCurrent : ℕ → Stage → Type 0
-IsCurrent global (holding g) = g ≡ global
-IsCurrent global (inside d g) = g ≡ global
-IsCurrent global g = Unit {0}
+abbrev pub IsAtGlobal : ℕ → Stage → Type 0
+IsAtGlobal global (holding g) = g ≡ global
+IsAtGlobal global (inside d g) = g ≡ global
+IsAtGlobal global g = Unit {0}
 
 -- a poll that has found each record that it passed inactive, this one among them
 abbrev pub IsQuiet : Stage → ℕ → Type 0
@@ -74,7 +74,7 @@ pub record IsRecordHeld (run : Run) (global active own r : ℕ) (w : TokenState)
   pub behind : own ≤ global
   pub counted : active ≡ active_of g
   pub timely : IsTimely global own g
-  pub current : IsPassed w.stage r → IsCurrent global g
+  pub current : IsPassed w.stage r → IsAtGlobal global g
   pub sections : (o : ℕ) → IsOpen run r o → IsOpenAt global (λ i. o < index_in run 0 i) r w g
 
 -- how often the global epoch may still rise by the call that is under way

@@ -52,7 +52,7 @@ abbrev pub lists_view : List PendingList → List (List Retired)
 lists_view lists = map (λ (l : PendingList). l.items) lists
 
 -- Four lists, each of this room. Their items and so many answers that wait are together no more than that
-pub record HasRoom {Z : Type 0} (lists : Vec PendingList Z) (waiting room : ℕ) : Type 0 where
+pub record ListsHaveRoom {Z : Type 0} (lists : Vec PendingList Z) (waiting room : ℕ) : Type 0 where
   pub four : vec_len lists ≡ 4
   pub roomy : All (λ (l : PendingList). l.room ≡ room) lists.items
   pub fits : length (in_a_row (lists_view lists.items)) + waiting ≤ room

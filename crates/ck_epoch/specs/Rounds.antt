@@ -10,30 +10,30 @@ use Rattle.ck_run.specs.Tokens.{did, origin, number, adding}
 use Rattle.ck_epoch.specs.State.{synchronize, barrier, Task, first_round, second_round, free, scanning, TokenState, dispatch_all, Token, records_of, state}
 use Rattle.ck_epoch.specs.Epochs.{IsOpen, IsOlder}
 use Rattle.ck_epoch.specs.Client.{Client, program}
-use Rattle.ck_epoch.specs.Ends.{IsInRun}
-use Rattle.ck_epoch.specs.Calls.{Looked, look_steps}
+use Rattle.ck_epoch.specs.Ends.{IsDomainToken}
+use Rattle.ck_epoch.specs.Calls.{RecordLook, look_steps}
 
 -- the steps of looks at one record, again and again
-abbrev pub wait_steps : ℕ → List Looked → List Step
+abbrev pub wait_steps : ℕ → List RecordLook → List Step
 wait_steps rec [] = []
 wait_steps rec (l ∷ ls) = look_steps rec l ++ wait_steps rec ls
 
 -- a look by which no section of an epoch other than e is open in the record
-abbrev pub IsPast : ℕ → Looked → Type 0
-IsPast e l = (l.active ≡ 0) ⊎ (l.epoch ≡ e)
+abbrev pub LetsPass : ℕ → RecordLook → Type 0
+LetsPass e l = (l.active ≡ 0) ⊎ (l.epoch ≡ e)
 
 -- the looks at one record: only the last is such a look
-abbrev pub IsWait : ℕ → List Looked → Type 0
-IsWait e looks = (before : List Looked) × (l : Looked) × (looks ≡ before ++ l ∷ []) × All (λ (l : Looked). ¬ IsPast e l) before × IsPast e l
+abbrev pub IsWait : ℕ → List RecordLook → Type 0
+IsWait e looks = (before : List RecordLook) × (l : RecordLook) × (looks ≡ before ++ l ∷ []) × All (λ (l : RecordLook). ¬ LetsPass e l) before × LetsPass e l
 
 -- of the records from `rec` on, in order
-abbrev pub waits_steps : ℕ → List (List Looked) → List Step
+abbrev pub waits_steps : ℕ → List (List RecordLook) → List Step
 waits_steps rec [] = []
 waits_steps rec (looks ∷ rest) = wait_steps rec looks ++ waits_steps (rec + 1) rest
 
 -- A round loads the global epoch e, waits for each record in order, and raises the global epoch to e + 1
 abbrev pub IsRound : ℕ → ℕ → List Step → Type 0
-IsRound records e steps = (waits : List (List Looked)) × (length waits ≡ records) × All (IsWait e) waits × (steps ≡ Load 0 e ∷ (waits_steps 0 waits ++ Exchange 0 e (e + 1) e ∷ []))
+IsRound records e steps = (waits : List (List RecordLook)) × (length waits ≡ records) × All (IsWait e) waits × (steps ≡ Load 0 e ∷ (waits_steps 0 waits ++ Exchange 0 e (e + 1) e ∷ []))
 
 -- the round of a task
 abbrev pub IsWaiting : Task → Type 0
@@ -62,7 +62,7 @@ module _ {C : Type 0} where
 
   -- within a round, before the record `rec` is passed
   pub record IsInRound (client : Client C) (e rec : ℕ) (t : Token C) : Type 0 where
-    pub part : IsInRun client t
+    pub part : IsDomainToken client t
     pub first : number t ≡ 0
     pub task : Task
     pub busy : Option ℕ
@@ -75,8 +75,8 @@ module _ {C : Type 0} where
       → (busy' : Option ℕ) × (state u ≡ record (state t) { stage = scanning task e to busy'; steps = (state u).steps })
 
   -- the writer between two calls
-  pub record IsFree (client : Client C) (t : Token C) : Type 0 where
-    pub part : IsInRun client t
+  pub record IsWriterFree (client : Client C) (t : Token C) : Type 0 where
+    pub part : IsDomainToken client t
     pub first : number t ≡ 0
     pub stage : (state t).stage ≡ free
     pub few : (state t).calls < 2 ^ 40

@@ -7,13 +7,13 @@ use Rattle.ck_epoch.specs.declared.answers.Scan.{Scan}
 use Rattle.ck_epoch.specs.declared.answers.Scan.TheVariants.{Clear, Current, Behind}
 use Rattle.ck_epoch.specs.State.{Token, TokenState, Stage, polling, scanning, free, Retirement, on_list, off_list, list_by_list, is_clear, poll, records_of, state}
 use Rattle.ck_epoch.specs.Client.{Client}
-use Rattle.ck_epoch.specs.Ends.{IsInRun}
-use Rattle.ck_epoch.specs.Calls.{Looked, scan_steps, AreInactive, FirstActive, FindsNone, Moves, IsBlocked}
+use Rattle.ck_epoch.specs.Ends.{IsDomainToken}
+use Rattle.ck_epoch.specs.Calls.{RecordLook, scan_steps, AreInactive, FirstActive, FindsNoneActive, Moves, IsBlocked}
 
 -- the first of the records so far that was active, where one was
-abbrev pub IsFound : ℕ → List Looked → Option ℕ → Type 0
-IsFound e looked None = AreInactive looked
-IsFound e looked (Some r) = FirstActive e r looked
+abbrev pub IsFirstFound : ℕ → List RecordLook → Option ℕ → Type 0
+IsFirstFound e looked None = AreInactive looked
+IsFirstFound e looked (Some r) = FirstActive e r looked
 
 -- all records were passed and none was active
 abbrev pub is_done : ℕ → ℕ → Option ℕ → Bool
@@ -31,27 +31,27 @@ abbrev pub dispatched_at : ℕ → ℕ → Option ℕ → List Retirement → Li
 dispatched_at records rec busy gone items = cond (is_done records rec busy) (gone ++ list_by_list items) gone
 
 -- the items that a poll dispatches first, behind those that were dispatched before
-abbrev pub gone_first : ℕ → TokenState → List Retirement
-gone_first e s = s.dispatched ++ on_list ((e - 2) % 4) s.pending
+abbrev pub first_dispatch : ℕ → TokenState → List Retirement
+first_dispatch e s = s.dispatched ++ on_list ((e - 2) % 4) s.pending
 
 module _ {C : Type 0} (client : Client C) where
   -- The writer that began a poll as t and is u now: it loaded the global epoch e and has passed the records below `rec`
   pub record IsScanning (t u : Token C) (e rec : ℕ) (busy : Option ℕ) : Type 0 where
-    pub part : IsInRun client u
+    pub part : IsDomainToken client u
     pub first : number u ≡ 0
-    pub looked : List Looked
+    pub looked : List RecordLook
     pub count : length looked ≡ rec
-    pub found : IsFound e looked busy
+    pub found : IsFirstFound e looked busy
     pub steps : u ≡ adding t (call poll [] (Load 0 e ∷ scan_steps 0 looked))
     pub stage : (state u).stage ≡ stage_at (records_of (origin t)) e rec busy
     pub calls : (state u).calls ≡ (state t).calls + 1
     pub epoch : ((state t).epoch ≡ e) × ((state u).epoch ≡ e)
     pub pending : (state u).pending ≡ pending_at (records_of (origin t)) rec busy (off_list ((e - 2) % 4) (state t).pending)
-    pub dispatched : (state u).dispatched ≡ dispatched_at (records_of (origin t)) rec busy (gone_first e (state t)) (off_list ((e - 2) % 4) (state t).pending)
+    pub dispatched : (state u).dispatched ≡ dispatched_at (records_of (origin t)) rec busy (first_dispatch e (state t)) (off_list ((e - 2) % 4) (state t).pending)
 
   -- the writer between two calls, after a poll that left it this epoch, these pending items and these that were dispatched
   pub record IsDone (t u : Token C) (epoch : ℕ) (pending dispatched : List Retirement) : Type 0 where
-    pub part : IsInRun client u
+    pub part : IsDomainToken client u
     pub first : number u ≡ 0
     pub stage : (state u).stage ≡ free
     pub calls : (state u).calls ≡ (state t).calls + 1
@@ -61,7 +61,7 @@ module _ {C : Type 0} (client : Client C) where
 
   -- what a poll did, by what it found
   abbrev pub Did : Token C → Token C → ℕ → Scan → Type 0
-  Did t u e Clear = FindsNone (records_of (origin t)) e t u × IsDone t u e [] (gone_first e (state t) ++ list_by_list (off_list ((e - 2) % 4) (state t).pending))
+  Did t u e Clear = FindsNoneActive (records_of (origin t)) e t u × IsDone t u e [] (first_dispatch e (state t) ++ list_by_list (off_list ((e - 2) % 4) (state t).pending))
   Did t u e (Current rec) = Moves (records_of (origin t)) e rec t u × IsDone t u (e + 1) (off_list ((e - 1) % 4) (off_list ((e - 2) % 4) (state t).pending))
-      (gone_first e (state t) ++ on_list ((e - 1) % 4) (off_list ((e - 2) % 4) (state t).pending))
-  Did t u e (Behind rec epoch) = IsBlocked e rec epoch t u × IsDone t u e (off_list ((e - 2) % 4) (state t).pending) (gone_first e (state t))
+      (first_dispatch e (state t) ++ on_list ((e - 1) % 4) (off_list ((e - 2) % 4) (state t).pending))
+  Did t u e (Behind rec epoch) = IsBlocked e rec epoch t u × IsDone t u e (off_list ((e - 2) % 4) (state t).pending) (first_dispatch e (state t))

@@ -28,13 +28,13 @@ pub struct Backlog {
 
 impl Model for Backlog {
     ghost use Rattle.std.specs.VecDeque.{deque_len, deque_capacity};
-    ghost use Rattle.ck_epoch.specs.Lists.{Backlog as BacklogOf, lists_view, HasRoom};
+    ghost use Rattle.ck_epoch.specs.Lists.{Backlog as BacklogOf, lists_view, ListsHaveRoom};
 
     ghost Value = { BacklogOf };
 
     ghost view = { λ b. record { lists = lists_view b.lists.items; waiting = b.waiting.items; room = deque_capacity b.waiting } };
 
-    ghost invariant = { λ b. HasRoom b.lists (deque_len b.waiting) (deque_capacity b.waiting) };
+    ghost invariant = { λ b. ListsHaveRoom b.lists (deque_len b.waiting) (deque_capacity b.waiting) };
 }
 
 // Takes the items of a list out, in order of retirement, and lets the handler's answer for each wait.

@@ -1,6 +1,7 @@
 ghost use Rattle.std.specs.Prelude.{◌≡◌};
 
-use crate::{Client, Domain, Item, Within};
+use crate::tests::one_reader;
+use crate::{Client, Item, Within};
 use ck_words::Back;
 use std::marker::Brand;
 use std::test::Fail;
@@ -72,19 +73,17 @@ fn home(item: Item) -> Back {
 
 #[test]
 fn a_word_that_a_reader_told_is_asked(rt: HostRuntime) -> Result<(), Fail> {
-    let (domain, mut writer, mut passes) = Domain::new(
+    let (domain, mut writer, mut pass) = one_reader(
         rt.alloc(),
         Board { start: 7 },
-        1,
-        1,
         |item: Item| home(item),
     )?;
-    let mut pass = passes.pop().unwrap();
     assert_eq!(rt; domain.ask::<Brand, _>(&mut writer, 1), 7);
     domain.tell::<Brand>(&mut pass, 1, 5);
     assert_eq!(rt; domain.ask::<Brand, _>(&mut writer, 1), 5);
     domain.write::<Brand, _>(&mut writer, 0, 3);
     assert_eq!(rt; domain.read::<Brand>(&mut pass, 0), 3);
+    let mut passes = Vec::new(rt.alloc());
     passes.push(pass)?;
     let closed = domain.close(writer, passes);
     assert_eq!(rt; closed.words.as_slice(), [3, 5].as_slice());
@@ -93,11 +92,9 @@ fn a_word_that_a_reader_told_is_asked(rt: HostRuntime) -> Result<(), Fail> {
 
 #[test]
 fn a_domain_keeps_its_client(rt: HostRuntime) -> Result<(), Fail> {
-    let (domain, _writer, _passes) = Domain::new(
+    let (domain, _writer, _pass) = one_reader(
         rt.alloc(),
         Board { start: 9 },
-        1,
-        1,
         |item: Item| home(item),
     )?;
     let client = domain.client();

@@ -4,7 +4,7 @@ ghost use Rattle.ck_run.specs.declared.account.Step.TheVariants.{Load, Store};
 ghost use Rattle.ck_run.specs.Run.{entry};
 ghost use Rattle.ck_run.specs.Tokens.{table, adding};
 ghost use Rattle.ck_epoch.specs.State.{state, depth, base_of};
-ghost use Rattle.ck_epoch.specs.Ends.{IsInRun, IsReading, IsWriting};
+ghost use Rattle.ck_epoch.specs.Ends.{IsDomainToken, IsReading, IsWriting};
 ghost use Rattle.ck_epoch.specs.Calls.{MayFollow};
 
 use crate::client::Client;
@@ -22,7 +22,7 @@ impl<C: Client> Domain<C> {
         requires client { IsReading C.meaning pass.old.token → (n : ℕ) → n < 2 ^ 64 → MayFollow C.meaning pass.old.token (entry O.opens (Load (base_of self.now.origin + at) n)) }
         ensures step { pass.new ≡ record pass.old { token = adding pass.old.token (entry O.opens (Load (base_of self.now.origin + at) result) ∷ []) } }
         ensures depth { depth pass.new.token ≡ depth pass.old.token }
-        ensures part { IsInRun C.meaning pass.new.token }
+        ensures part { IsDomainToken C.meaning pass.new.token }
     {
         let word = base_word(self.about.records) + at as usize;
         self.words.load::<O>(&mut pass.token, word)
@@ -35,7 +35,7 @@ impl<C: Client> Domain<C> {
         requires client { IsReading C.meaning pass.old.token → MayFollow C.meaning pass.old.token (entry O.opens (Store (base_of self.now.origin + at) value)) }
         ensures step { pass.new ≡ record pass.old { token = adding pass.old.token (entry O.opens (Store (base_of self.now.origin + at) value) ∷ []) } }
         ensures depth { depth pass.new.token ≡ depth pass.old.token }
-        ensures part { IsInRun C.meaning pass.new.token }
+        ensures part { IsDomainToken C.meaning pass.new.token }
     {
         let word = base_word(self.about.records) + at as usize;
         self.words.store::<O>(&mut pass.token, word, value);
@@ -48,7 +48,7 @@ impl<C: Client> Domain<C> {
         requires client { IsWriting C.meaning writer.old.token → (n : ℕ) → n < 2 ^ 64 → MayFollow C.meaning writer.old.token (entry O.opens (Load (base_of self.now.origin + at) n)) }
         ensures step { writer.new ≡ record writer.old { token = adding writer.old.token (entry O.opens (Load (base_of self.now.origin + at) result) ∷ []) } }
         ensures same { ((state writer.new.token).pending ≡ (state writer.old.token).pending) × ((state writer.new.token).dispatched ≡ (state writer.old.token).dispatched) × ((state writer.new.token).epoch ≡ (state writer.old.token).epoch) }
-        ensures part { IsInRun C.meaning writer.new.token }
+        ensures part { IsDomainToken C.meaning writer.new.token }
     {
         let word = base_word(self.about.records) + at as usize;
         self.words.load::<O>(&mut writer.token, word)
@@ -61,7 +61,7 @@ impl<C: Client> Domain<C> {
         requires client { IsWriting C.meaning writer.old.token → MayFollow C.meaning writer.old.token (entry O.opens (Store (base_of self.now.origin + at) value)) }
         ensures step { writer.new ≡ record writer.old { token = adding writer.old.token (entry O.opens (Store (base_of self.now.origin + at) value) ∷ []) } }
         ensures same { ((state writer.new.token).pending ≡ (state writer.old.token).pending) × ((state writer.new.token).dispatched ≡ (state writer.old.token).dispatched) × ((state writer.new.token).epoch ≡ (state writer.old.token).epoch) }
-        ensures part { IsInRun C.meaning writer.new.token }
+        ensures part { IsDomainToken C.meaning writer.new.token }
     {
         let word = base_word(self.about.records) + at as usize;
         self.words.store::<O>(&mut writer.token, word, value);

@@ -4,7 +4,7 @@ ghost use Rattle.ck_run.specs.Tokens.{Table, table};
 ghost use Rattle.ck_run.specs.Ends.{fresh};
 ghost use Rattle.ck_epoch.specs.State.{records_of};
 ghost use Rattle.ck_epoch.specs.Lists.{Answers};
-ghost use Rattle.ck_epoch.specs.Closing.{opened, AreOpening, AreFresh, IsClosedDomain};
+ghost use Rattle.ck_epoch.specs.Closing.{opened, AreOpening, AreFreshPasses, IsClosedDomain};
 
 use crate::about::About;
 use crate::answers::Closed;
@@ -81,7 +81,7 @@ impl<C: Client + Drop> Domain<C> {
         ensures about { IfOk result (λ r. r.0.origin.config ≡ record { client = client; records = records }) }
         ensures words { IfOk result (λ r. AreOpening C.meaning r.0.origin) }
         ensures writer { IfOk result (λ r. r.1 ≡ record { token = fresh r.0 0; calls = 0; waiting = []; room = room; handler = handler; tally = 0 }) }
-        ensures passes { IfOk result (λ r. (vec_len r.2 ≡ records) × AreFresh r.0 1 r.2.items) }
+        ensures passes { IfOk result (λ r. (vec_len r.2 ≡ records) × AreFreshPasses r.0 1 r.2.items) }
     {
         let mut passes = Vec::with_capacity(alloc, records as usize)?;
         let backlog = Backlog::new(alloc, room as usize)?;

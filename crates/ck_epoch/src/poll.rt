@@ -4,9 +4,9 @@ ghost use Rattle.ck_run.specs.Tokens.{table, number};
 ghost use Rattle.ck_epoch.specs.declared.answers.Scan.TheVariants.{Behind};
 ghost use Rattle.ck_epoch.specs.State.{Token as TokenOf, state, free, queue, records_of};
 ghost use Rattle.ck_epoch.specs.Lists.{homes, Answers};
-ghost use Rattle.ck_epoch.specs.Ends.{IsInRun, IsWriting};
+ghost use Rattle.ck_epoch.specs.Ends.{IsDomainToken, IsWriting};
 ghost use Rattle.ck_epoch.specs.Scan.{IsScanning, Did};
-ghost use Rattle.ck_epoch.specs.Calls.{Polls, gone, kept, count_of, epoch_after};
+ghost use Rattle.ck_epoch.specs.Calls.{Polls, dispatched_items, pending_after, count_of, epoch_after};
 
 use crate::about::About;
 use crate::answers::{Poll, Scan};
@@ -95,13 +95,13 @@ impl<C: Client> Domain<C> {
         requires handler { Answers (C.meaning.retires self.now.origin.config.client) (C.meaning.home self.now.origin.config.client) (F.pre writer.old.handler) (F.post writer.old.handler) }
         ensures same { (table writer.new.token ≡ table writer.old.token) × (number writer.new.token ≡ number writer.old.token) × (writer.new.room ≡ writer.old.room) × (writer.new.handler ≡ writer.old.handler) × (writer.new.tally ≡ writer.old.tally) }
         ensures steps { Polls (records_of self.now.origin) (state writer.old.token).epoch writer.old.token result writer.new.token }
-        ensures waiting { writer.new.waiting ≡ writer.old.waiting ++ homes (C.meaning.home self.now.origin.config.client) (gone (state writer.old.token).epoch result (queue (state writer.old.token).pending)) }
-        ensures dispatched { queue (state writer.new.token).dispatched ≡ queue (state writer.old.token).dispatched ++ gone (state writer.old.token).epoch result (queue (state writer.old.token).pending) }
-        ensures pending { queue (state writer.new.token).pending ≡ kept (state writer.old.token).epoch result (queue (state writer.old.token).pending) }
-        ensures count { count_of result ≡ length (gone (state writer.old.token).epoch result (queue (state writer.old.token).pending)) }
+        ensures waiting { writer.new.waiting ≡ writer.old.waiting ++ homes (C.meaning.home self.now.origin.config.client) (dispatched_items (state writer.old.token).epoch result (queue (state writer.old.token).pending)) }
+        ensures dispatched { queue (state writer.new.token).dispatched ≡ queue (state writer.old.token).dispatched ++ dispatched_items (state writer.old.token).epoch result (queue (state writer.old.token).pending) }
+        ensures pending { queue (state writer.new.token).pending ≡ pending_after (state writer.old.token).epoch result (queue (state writer.old.token).pending) }
+        ensures count { count_of result ≡ length (dispatched_items (state writer.old.token).epoch result (queue (state writer.old.token).pending)) }
         ensures epoch { (state writer.new.token).epoch ≡ epoch_after (state writer.old.token).epoch result }
         ensures calls { writer.new.calls ≡ writer.old.calls + 1 }
-        ensures part { IsInRun C.meaning writer.new.token }
+        ensures part { IsDomainToken C.meaning writer.new.token }
     {
         let client = &self.about.client;
         let epoch = self.start_poll(&mut writer.token);

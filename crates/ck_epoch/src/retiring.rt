@@ -6,7 +6,7 @@ ghost use Rattle.ck_run.specs.Run.{handing};
 ghost use Rattle.ck_run.specs.Tokens.{table, adding, MayMake, Makes};
 ghost use Rattle.ck_epoch.specs.State.{state, queue};
 ghost use Rattle.ck_epoch.specs.Client.{program};
-ghost use Rattle.ck_epoch.specs.Ends.{IsInRun, IsWriting};
+ghost use Rattle.ck_epoch.specs.Ends.{IsDomainToken, IsWriting};
 ghost use Rattle.ck_epoch.specs.Calls.{MayFollow};
 
 use crate::about::About;
@@ -44,7 +44,7 @@ impl<C: Client> Domain<C> {
         } }
         ensures pending { queue (state writer.new.token).pending ≡ queue (state writer.old.token).pending ++ record { item = item; epoch = (state writer.old.token).epoch } ∷ [] }
         ensures same { ((state writer.new.token).dispatched ≡ (state writer.old.token).dispatched) × ((state writer.new.token).epoch ≡ (state writer.old.token).epoch) }
-        ensures part { IsInRun C.meaning writer.new.token }
+        ensures part { IsDomainToken C.meaning writer.new.token }
     {
         // A section that opened before this load has at most this epoch, and one that opens after it can't reach the item.
         let epoch = self.retire::<O, Brand>(&mut writer.token, item);

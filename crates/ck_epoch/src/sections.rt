@@ -4,7 +4,7 @@ ghost use Rattle.ck_run.specs.declared.account.Step.TheVariants.{Load, Store};
 ghost use Rattle.ck_run.specs.Run.{entry, call};
 ghost use Rattle.ck_run.specs.Tokens.{table, number, adding};
 ghost use Rattle.ck_epoch.specs.State.{state, depth, base_of, active_word as active, epoch_word as own, begin as begins, end as ends};
-ghost use Rattle.ck_epoch.specs.Ends.{IsInRun, IsPass};
+ghost use Rattle.ck_epoch.specs.Ends.{IsDomainToken, IsPass};
 ghost use Rattle.ck_epoch.specs.Calls.{rec_of, Begins, StepsBelow};
 
 use crate::about::About;
@@ -58,7 +58,7 @@ impl<C: Client> Domain<C> {
         ensures below { StepsBelow (base_of self.now.origin) pass.old.token pass.new.token }
         ensures depth { depth pass.new.token ≡ depth pass.old.token + 1 }
         ensures calls { pass.new.calls ≡ pass.old.calls + 1 }
-        ensures part { IsInRun C.meaning pass.new.token }
+        ensures part { IsDomainToken C.meaning pass.new.token }
     {
         let (rec, depth) = (pass.rec, pass.depth);
         if depth == 0 {
@@ -83,7 +83,7 @@ impl<C: Client> Domain<C> {
         } }
         ensures below { StepsBelow (base_of self.now.origin) pass.old.token pass.new.token }
         ensures depth { depth pass.new.token ≡ depth pass.old.token - 1 }
-        ensures part { IsInRun C.meaning pass.new.token }
+        ensures part { IsDomainToken C.meaning pass.new.token }
     {
         let (rec, depth) = (pass.rec, pass.depth);
         // Only the end of the outermost section stores 0. The writer passes the record over from then on, whatever its epoch word.

@@ -6,9 +6,9 @@ ghost use Rattle.ck_run.specs.Run.{further};
 ghost use Rattle.ck_run.specs.Tokens.{table, number, adding};
 ghost use Rattle.ck_epoch.specs.State.{Task, scanning, after_raise, state, queue, records_of, synchronize as synchronizes, barrier as bars};
 ghost use Rattle.ck_epoch.specs.Lists.{by_list, homes, Answers};
-ghost use Rattle.ck_epoch.specs.Ends.{IsInRun};
-ghost use Rattle.ck_epoch.specs.Calls.{Looked};
-ghost use Rattle.ck_epoch.specs.Rounds.{wait_steps, IsWait, IsRound, IsWaiting, IsInRound, ScansOn, IsFree, name_of, after_rounds, Rounds, HaveEnded};
+ghost use Rattle.ck_epoch.specs.Ends.{IsDomainToken};
+ghost use Rattle.ck_epoch.specs.Calls.{RecordLook};
+ghost use Rattle.ck_epoch.specs.Rounds.{wait_steps, IsWait, IsRound, IsWaiting, IsInRound, ScansOn, IsWriterFree, name_of, after_rounds, Rounds, HaveEnded};
 
 use crate::about::About;
 use crate::client::Client;
@@ -29,7 +29,7 @@ impl<C: Client> Domain<C> {
         requires scans { IsInRound C.meaning epoch rec token.old }
         requires rec { rec < records_of self.now.origin }
         ensures table { table token.new ≡ table token.old }
-        ensures steps { (looks : List Looked) × IsWait epoch looks × (token.new ≡ adding token.old (map further (wait_steps rec looks))) }
+        ensures steps { (looks : List RecordLook) × IsWait epoch looks × (token.new ≡ adding token.old (map further (wait_steps rec looks))) }
         ensures scans { IsInRound C.meaning epoch (rec + 1) token.new × ScansOn epoch rec (rec + 1) token.old token.new }
     {
         let backoff = Backoff::new();
@@ -53,7 +53,7 @@ impl<C: Client> Domain<C> {
         ensures table { table token.new ≡ table token.old }
         ensures steps { (steps : List StepOf) × IsRound (records_of self.now.origin) epoch (Load 0 epoch ∷ steps) × (token.new ≡ adding token.old (map further steps)) }
         ensures state { (task : Task) → IsWaiting task → (busy : _) → (state token.old).stage ≡ scanning task epoch 0 busy → state token.new ≡ record (after_raise (state token.old) task epoch) { steps = (state token.new).steps } }
-        ensures part { IsInRun C.meaning token.new }
+        ensures part { IsDomainToken C.meaning token.new }
     {
         for rec in 0..self.about.records {
             self.wait_for(rt, token, epoch, rec);
@@ -65,12 +65,12 @@ impl<C: Client> Domain<C> {
     // Two rounds. `O` has the name of the call.
     fn two_rounds<O: Opens, R: Wait>(&self, rt: &R, token: &mut Token<About<C>>)
         requires table { table token.old ≡ self.now }
-        requires free { IsFree C.meaning token.old }
+        requires free { IsWriterFree C.meaning token.old }
         requires name { (all : Bool) × (O.opens ≡ name_of all ∷ []) }
         ensures table { table token.new ≡ table token.old }
         ensures steps { (name : ℕ) → O.opens ≡ name ∷ [] → Rounds (records_of self.now.origin) name (state token.old).epoch token.old token.new }
         ensures state { (all : Bool) → O.opens ≡ name_of all ∷ [] → state token.new ≡ after_rounds all (state token.old) (state token.new).steps }
-        ensures part { IsInRun C.meaning token.new }
+        ensures part { IsDomainToken C.meaning token.new }
     {
         // One round isn't enough: a reader may have loaded the epoch before the first round raised it, and store it after its record was
         // passed, so a section that was open at the call may lag by one. The second round waits for that one.
@@ -90,7 +90,7 @@ impl<C: Client> Domain<C> {
         ensures ended { HaveEnded C.meaning writer.old.token writer.new.token }
         ensures items { ((state writer.new.token).pending ≡ (state writer.old.token).pending) × ((state writer.new.token).dispatched ≡ (state writer.old.token).dispatched) }
         ensures epoch { (state writer.new.token).epoch ≡ (state writer.old.token).epoch + 2 }
-        ensures part { IsInRun C.meaning writer.new.token }
+        ensures part { IsDomainToken C.meaning writer.new.token }
     {
         self.two_rounds::<Brand, R>(rt, &mut writer.token);
         writer.calls += 1;
@@ -110,7 +110,7 @@ impl<C: Client> Domain<C> {
         ensures dispatched { queue (state writer.new.token).dispatched ≡ queue (state writer.old.token).dispatched ++ by_list (queue (state writer.old.token).pending) }
         ensures count { result ≡ length (state writer.old.token).pending }
         ensures epoch { (state writer.new.token).epoch ≡ (state writer.old.token).epoch + 2 }
-        ensures part { IsInRun C.meaning writer.new.token }
+        ensures part { IsDomainToken C.meaning writer.new.token }
     {
         let client = &self.about.client;
         self.two_rounds::<Brand, R>(rt, &mut writer.token);

@@ -1,12 +1,15 @@
-ghost use Rattle.std.specs.Prelude.{◌≡◌, ◌+◌, ◌<◌, ◌≤◌, ◌^◌, ◌==◌, true, length};
+ghost use Rattle.std.specs.Prelude.{◌≡◌, ◌+◌, ◌<◌, ◌≤◌, ◌^◌, ◌==◌, true, [], length, IfOk};
 ghost use Rattle.ck_run.specs.Tokens.{table};
+ghost use Rattle.ck_run.specs.Ends.{fresh};
 ghost use Rattle.ck_words.specs.declared.back.Back.{Back as BackOf};
 ghost use Rattle.ck_epoch.specs.declared.item.Item.{Item as ItemOf};
 ghost use Rattle.ck_epoch.specs.State.{state, depth};
 ghost use Rattle.ck_epoch.specs.Lists.{Answers};
+ghost use Rattle.ck_epoch.specs.Closing.{AreOpening};
 
 use crate::{Client, Domain, Item, Pass, Poll, Within, Writer};
 use ck_words::Back;
+use std::alloc::{AllocError, Global};
 use std::marker::Brand;
 use std::sync::Wait;
 use std::test::Fail;
@@ -85,16 +88,27 @@ pub(crate) fn home(item: Item) -> Back
 
 pub(crate) const BLOCK: Item = Item { at: 8, log: 3 };
 
+/// A domain with one record: its writer, which has room for four items and answers, and its pass.
+pub(crate) fn one_reader<C: Client + Drop, F: Fn(Item) -> Back + Drop>(
+    alloc: Global,
+    client: C,
+    handler: F,
+) -> Result<(Domain<C>, Writer<C, F>, Pass<C>), AllocError>
+    requires size { C.meaning.size client ≤ 2 ^ 33 }
+    requires handler { Answers (C.meaning.retires client) (C.meaning.home client) (F.pre handler) (F.post handler) }
+    ensures about { IfOk result (λ r. r.0.origin.config ≡ record { client = client; records = 1 }) }
+    ensures words { IfOk result (λ r. AreOpening C.meaning r.0.origin) }
+    ensures writer { IfOk result (λ r. r.1 ≡ record { token = fresh r.0 0; calls = 0; waiting = []; room = 4; handler = handler; tally = 0 }) }
+    ensures pass { IfOk result (λ r. r.2 ≡ record { token = fresh r.0 1; calls = 0; tally = 0 }) }
+{
+    let (domain, writer, mut passes) = Domain::new(alloc, client, 1, 4, handler)?;
+    let pass = passes.pop().unwrap();
+    Ok((domain, writer, pass))
+}
+
 #[test]
 fn gives_back_once_the_older_section_ended(rt: HostRuntime) -> Result<(), Fail> {
-    let (domain, mut writer, mut passes) = Domain::new(
-        rt.alloc(),
-        Counter,
-        1,
-        4,
-        |item: Item| home(item),
-    )?;
-    let mut pass = passes.pop().unwrap();
+    let (domain, mut writer, mut pass) = one_reader(rt.alloc(), Counter, |item: Item| home(item))?;
     domain.begin(&mut pass);
     domain.call::<Brand, _>(&mut writer, BLOCK);
     assert_eq!(rt; domain.poll(&mut writer), Poll::Moved { n: 0, rec: 0 });
@@ -116,14 +130,7 @@ fn gives_back_once_the_older_section_ended(rt: HostRuntime) -> Result<(), Fail> 
 
 #[test]
 fn waits_for_the_outermost_section(rt: HostRuntime) -> Result<(), Fail> {
-    let (domain, mut writer, mut passes) = Domain::new(
-        rt.alloc(),
-        Counter,
-        1,
-        4,
-        |item: Item| home(item),
-    )?;
-    let mut pass = passes.pop().unwrap();
+    let (domain, mut writer, mut pass) = one_reader(rt.alloc(), Counter, |item: Item| home(item))?;
     domain.begin(&mut pass);
     domain.begin(&mut pass);
     domain.call::<Brand, _>(&mut writer, BLOCK);
@@ -151,14 +158,7 @@ fn waits_for_the_outermost_section(rt: HostRuntime) -> Result<(), Fail> {
 
 #[test]
 fn gives_back_beside_a_younger_section(rt: HostRuntime) -> Result<(), Fail> {
-    let (domain, mut writer, mut passes) = Domain::new(
-        rt.alloc(),
-        Counter,
-        1,
-        4,
-        |item: Item| home(item),
-    )?;
-    let mut pass = passes.pop().unwrap();
+    let (domain, mut writer, mut pass) = one_reader(rt.alloc(), Counter, |item: Item| home(item))?;
     domain.begin(&mut pass);
     domain.call::<Brand, _>(&mut writer, BLOCK);
     assert_eq!(rt; domain.poll(&mut writer), Poll::Moved { n: 0, rec: 0 });

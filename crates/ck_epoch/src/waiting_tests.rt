@@ -2,7 +2,7 @@ ghost use Rattle.std.specs.Prelude.{◌≡◌, ◌+◌, ◌<◌, ◌^◌, length
 ghost use Rattle.ck_run.specs.Tokens.{table};
 ghost use Rattle.ck_epoch.specs.State.{state, depth};
 
-use crate::tests::{BLOCK, Counter, home};
+use crate::tests::{BLOCK, Counter, home, one_reader};
 use crate::{Domain, Item, Pass, Poll};
 use crossbeam_utils::Backoff;
 use std::marker::Brand;
@@ -14,14 +14,7 @@ use std::thread::join_mut;
 
 #[test]
 fn barrier_gives_back_what_is_pending(rt: HostRuntime) -> Result<(), Fail> {
-    let (domain, mut writer, mut passes) = Domain::new(
-        rt.alloc(),
-        Counter,
-        1,
-        4,
-        |item: Item| home(item),
-    )?;
-    let mut pass = passes.pop().unwrap();
+    let (domain, mut writer, mut pass) = one_reader(rt.alloc(), Counter, |item: Item| home(item))?;
     domain.call::<Brand, _>(&mut writer, BLOCK);
     assert_eq!(rt; domain.barrier(&rt, &mut writer), 1);
     assert_eq!(rt; domain.next_back(&mut writer), Some(home(BLOCK)));
@@ -71,14 +64,7 @@ fn until_one<R: Wait>(rt: &R, flag: &AtomicU64) {
 
 #[test]
 fn barrier_waits_for_the_open_section(rt: HostRuntime) -> Result<(), Fail> {
-    let (domain, mut writer, mut passes) = Domain::new(
-        rt.alloc(),
-        Counter,
-        1,
-        4,
-        |item: Item| home(item),
-    )?;
-    let mut pass = passes.pop().unwrap();
+    let (domain, mut writer, mut pass) = one_reader(rt.alloc(), Counter, |item: Item| home(item))?;
     let inside = AtomicU64::new(0);
     let over = AtomicU64::new(0);
     let (_, given) = join_mut(
@@ -100,14 +86,7 @@ fn barrier_waits_for_the_open_section(rt: HostRuntime) -> Result<(), Fail> {
 
 #[test]
 fn synchronize_returns_where_no_section_is_open(rt: HostRuntime) -> Result<(), Fail> {
-    let (domain, mut writer, mut passes) = Domain::new(
-        rt.alloc(),
-        Counter,
-        1,
-        4,
-        |item: Item| home(item),
-    )?;
-    let mut pass = passes.pop().unwrap();
+    let (domain, mut writer, mut pass) = one_reader(rt.alloc(), Counter, |item: Item| home(item))?;
     domain.call::<Brand, _>(&mut writer, BLOCK);
     domain.synchronize(&rt, &mut writer);
     assert_eq!(rt;
@@ -130,14 +109,7 @@ fn synchronize_returns_where_no_section_is_open(rt: HostRuntime) -> Result<(), F
 
 #[test]
 fn synchronize_waits_for_the_open_section(rt: HostRuntime) -> Result<(), Fail> {
-    let (domain, mut writer, mut passes) = Domain::new(
-        rt.alloc(),
-        Counter,
-        1,
-        4,
-        |item: Item| home(item),
-    )?;
-    let mut pass = passes.pop().unwrap();
+    let (domain, mut writer, mut pass) = one_reader(rt.alloc(), Counter, |item: Item| home(item))?;
     let inside = AtomicU64::new(0);
     let over = AtomicU64::new(0);
     let (_, ended) = join_mut(

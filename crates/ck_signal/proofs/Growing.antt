@@ -7,8 +7,8 @@ use Rattle.ck_run.proofs.Runs.{account-append}
 use Rattle.ck_epoch.specs.State.{Origin, base_of}
 use Rattle.ck_epoch.specs.Client.{Client, LogGrows, AnsweredRises}
 use Rattle.ck_signal.specs.declared.signals.Signals.{Signals}
-use Rattle.ck_signal.specs.Signals.{inside, log_of, answers_of}
-use Rattle.ck_signal.specs.Told.{IsRising, log_in, answers_in}
+use Rattle.ck_signal.specs.Signals.{inside, log_by, answers_by}
+use Rattle.ck_signal.specs.Told.{IsRising, log_during, answers_during}
 
 -- a count that doesn't fall as an account gets one entry
 count_rises : (count : List Entry → ℕ) → IsRising count → (es fs : List Entry) → count es ≤ count (es ++ fs)
@@ -28,13 +28,13 @@ module _ {C : Type 0} (client : Client C) (grows : LogGrows client) (rises : Ans
       (g.0 ++ r.0, ap (client.log first origin) (sym (append_assoc es (f ∷ []) fs)) ∙ (r.1 ∙ (ap (λ (l : List client.Update). l ++ r.0) g.1 ∙ append_assoc (client.log first origin es) g.0 r.0)))
 
   module _ (origin : Origin (Signals C)) (past more : Run) where
-    pub run_grows : (us : List client.Update) × (log_in client origin (past ++ more) ≡ log_in client origin past ++ us)
+    pub run_grows : (us : List client.Update) × (log_during client origin (past ++ more) ≡ log_during client origin past ++ us)
     run_grows =
         let g = log_grows (base_of origin) (inside origin) (account 0 past) (account 0 more) in
-        (g.0, ap (log_of client (base_of origin) origin) (account-append 0 past more) ∙ g.1)
+        (g.0, ap (log_by client (base_of origin) origin) (account-append 0 past more) ∙ g.1)
 
-    pub run_rises : (r : ℕ) → answers_in client origin past r ≤ answers_in client origin (past ++ more) r
-    run_rises r = run_counts (answers_of client (base_of origin) origin) (rises (base_of origin) (inside origin)) (suc r) past more
+    pub run_rises : (r : ℕ) → answers_during client origin past r ≤ answers_during client origin (past ++ more) r
+    run_rises r = run_counts (answers_by client (base_of origin) origin) (rises (base_of origin) (inside origin)) (suc r) past more
 
-    pub longer : length (log_in client origin past) ≤ length (log_in client origin (past ++ more))
-    longer = let e = ap length run_grows.1 ∙ length-append (log_in client origin past) run_grows.0 in omega arith
+    pub longer : length (log_during client origin past) ≤ length (log_during client origin (past ++ more))
+    longer = let e = ap length run_grows.1 ∙ length-append (log_during client origin past) run_grows.0 in omega arith

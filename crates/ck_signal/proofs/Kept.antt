@@ -17,8 +17,8 @@ use Rattle.ck_epoch.specs.State.{Origin, base_of}
 use Rattle.ck_epoch.specs.Client.{Client, LogGrows, AnsweredRises, IsClientOpening}
 use Rattle.ck_signal.specs.declared.signals.Signals.{Signals}
 use Rattle.ck_signal.specs.Words.{applied_word, answered_word, size_with}
-use Rattle.ck_signal.specs.Signals.{readers, own_size, log_of, answers_of, IsMark, IsReached, IsNote, IsAnswered, IsRead, IsSignal, MaySignal, signals}
-use Rattle.ck_signal.specs.Told.{applied, answered, log_in, answers_in, IsTold}
+use Rattle.ck_signal.specs.Signals.{readers, own_size, log_by, answers_by, IsMark, IsReached, IsNote, IsAnswered, IsRead, IsSignal, MaySignal, signals}
+use Rattle.ck_signal.specs.Told.{applied_word_of, answered_word_of, log_during, answers_during, IsTold}
 use Rattle.ck_signal.proofs.Growing.{run_rises, longer}
 
 -- a step leaves the other words
@@ -68,8 +68,8 @@ module _ {C : Type 0} (client : Client C) (grows : LogGrows client) (rises : Ans
   a = account_in past n
 
   -- no word is more than it could tell before the step
-  goes : (after : List ℕ) → length after ≡ length words → (get_or after (applied client origin) 0 ≤ length (log_in client origin past))
-      → ((r : ℕ) → r < readers origin → get_or after (answered client origin r) 0 ≤ answers_in client origin past r) → Keeps after
+  goes : (after : List ℕ) → length after ≡ length words → (get_or after (applied_word_of client origin) 0 ≤ length (log_during client origin past))
+      → ((r : ℕ) → r < readers origin → get_or after (answered_word_of client origin r) 0 ≤ answers_during client origin past r) → Keeps after
   goes after long updates answers = record {
     wide = subst (λ (k : ℕ). high client origin ≤ k) (sym long) h.wide;
     accounts = λ m. accounts_grow past at n m e h.accounts;
@@ -81,8 +81,8 @@ module _ {C : Type 0} (client : Client C) (grows : LogGrows client) (rises : Ans
 
   rests : (after : List ℕ) → length after ≡ length words → ((w : ℕ) → low client origin ≤ w → w < high client origin → get_or after w 0 ≡ get_or words w 0) → Keeps after
   rests after long same = goes after long
-      (subst (λ (k : ℕ). k ≤ length (log_in client origin past)) (sym (same (applied client origin) (omega arith) (omega arith))) h.told.updates)
-      (λ r few. subst (λ (k : ℕ). k ≤ answers_in client origin past r) (sym (same (answered client origin r) (omega arith) (omega arith))) (h.told.answers r few))
+      (subst (λ (k : ℕ). k ≤ length (log_during client origin past)) (sym (same (applied_word_of client origin) (omega arith) (omega arith))) h.told.updates)
+      (λ r few. subst (λ (k : ℕ). k ≤ answers_during client origin past r) (sym (same (answered_word_of client origin r) (omega arith) (omega arith))) (h.told.answers r few))
 
   elsewhere : (IsSignal client (base_of origin) origin e → ⊥) → Keeps (words_after words e.step)
   elsewhere else = rests (words_after words e.step) (same_length words e.step) (λ w from to. stays words e.step w (λ is. else (omega arith, omega arith)))
@@ -92,34 +92,34 @@ module _ {C : Type 0} (client : Client C) (grows : LogGrows client) (rises : Ans
 
   marked : IsMark client (base_of origin) origin a e → Keeps (words_after words e.step)
   marked m =
-      let word = applied client origin in
-      let k = length (log_of client (base_of origin) origin (account n past)) in
-      let told : k ≤ length (log_in client origin past) = subst (λ (i : ℕ). k ≤ length (log_of client (base_of origin) origin (account i past))) m.0 (le_refl k) in
+      let word = applied_word_of client origin in
+      let k = length (log_by client (base_of origin) origin (account n past)) in
+      let told : k ≤ length (log_during client origin past) = subst (λ (i : ℕ). k ≤ length (log_by client (base_of origin) origin (account i past))) m.0 (le_refl k) in
       subst (λ (x : Entry). Keeps (words_after words x.step)) (sym m.1)
       (goes (set words word k) (length-set words word k)
-      (subst (λ (z : ℕ). z ≤ length (log_in client origin past)) (sym (get_or-set_same words word k 0 (let wide = h.wide in omega arith))) told)
-      (λ r few. subst (λ (z : ℕ). z ≤ answers_in client origin past r) (sym (get_or-set_other words word (answered client origin r) k 0 (omega arith))) (h.told.answers r few)))
+      (subst (λ (z : ℕ). z ≤ length (log_during client origin past)) (sym (get_or-set_same words word k 0 (let wide = h.wide in omega arith))) told)
+      (λ r few. subst (λ (z : ℕ). z ≤ answers_during client origin past r) (sym (get_or-set_other words word (answered_word_of client origin r) k 0 (omega arith))) (h.told.answers r few)))
 
   noted : IsNote client (base_of origin) origin a e → Keeps (words_after words e.step)
   noted m =
       let r : ℕ = m.0 in
-      let word = answered client origin r in
-      let k = answers_of client (base_of origin) origin (account n past) in
-      let told : k ≤ answers_in client origin past r = subst (λ (i : ℕ). k ≤ answers_of client (base_of origin) origin (account i past)) m.1 (le_refl k) in
+      let word = answered_word_of client origin r in
+      let k = answers_by client (base_of origin) origin (account n past) in
+      let told : k ≤ answers_during client origin past r = subst (λ (i : ℕ). k ≤ answers_by client (base_of origin) origin (account i past)) m.1 (le_refl k) in
       let here : get_or (set words word k) word 0 ≡ k = get_or-set_same words word k 0 (let wide = h.wide in let few = m.2 in omega arith) in
       subst (λ (x : Entry). Keeps (words_after words x.step)) (sym m.3)
       (goes (set words word k) (length-set words word k)
-      (subst (λ (z : ℕ). z ≤ length (log_in client origin past)) (sym (get_or-set_other words word (applied client origin) k 0 (omega arith))) h.told.updates)
+      (subst (λ (z : ℕ). z ≤ length (log_during client origin past)) (sym (get_or-set_other words word (applied_word_of client origin) k 0 (omega arith))) h.told.updates)
       (λ q few. dite (ℕ_discrete r q)
-      (λ (same : r ≡ q). subst (λ (i : ℕ). get_or (set words word k) (answered client origin i) 0 ≤ answers_in client origin past i) same (subst (λ (z : ℕ). z ≤ answers_in client origin past r) (sym here) told))
-      (λ (other : r ≢ q). subst (λ (z : ℕ). z ≤ answers_in client origin past q) (sym (get_or-set_other words word (answered client origin q) k 0 (λ is. other (omega arith)))) (h.told.answers q few))))
+      (λ (same : r ≡ q). subst (λ (i : ℕ). get_or (set words word k) (answered_word_of client origin i) 0 ≤ answers_during client origin past i) same (subst (λ (z : ℕ). z ≤ answers_during client origin past r) (sym here) told))
+      (λ (other : r ≢ q). subst (λ (z : ℕ). z ≤ answers_during client origin past q) (sym (get_or-set_other words word (answered_word_of client origin q) k 0 (λ is. other (omega arith)))) (h.told.answers q few))))
 
   signalled : IsMark client (base_of origin) origin a e ⊎ (IsReached client (base_of origin) origin a e ⊎ (IsNote client (base_of origin) origin a e ⊎ (IsAnswered client (base_of origin) origin a e ⊎ IsRead origin a e)))
       → Keeps (words_after words e.step)
   signalled c = ⊎_elim marked
-      (λ c. ⊎_elim (λ (m : IsReached client (base_of origin) origin a e). loads (applied client origin) m.1 (ap (λ (x : Entry). x.step) m.3))
+      (λ c. ⊎_elim (λ (m : IsReached client (base_of origin) origin a e). loads (applied_word_of client origin) m.1 (ap (λ (x : Entry). x.step) m.3))
       (λ c. ⊎_elim noted
-      (λ c. ⊎_elim (λ (m : IsAnswered client (base_of origin) origin a e). loads (answered client origin m.0) m.1 (ap (λ (x : Entry). x.step) m.4))
+      (λ c. ⊎_elim (λ (m : IsAnswered client (base_of origin) origin a e). loads (answered_word_of client origin m.0) m.1 (ap (λ (x : Entry). x.step) m.4))
       (λ (m : IsRead origin a e). loads (base_of origin + m.0) m.1 (ap (λ (x : Entry). x.step) m.3)) c) c) c) c
 
   each_keeps : MaySignal client (base_of origin) origin a e → Keeps (words_after words e.step)

@@ -38,15 +38,15 @@ module _ {C : Type 0} (client : Client C) where
   answered_at first origin r = first + answered_word (own_size origin) r
 
   -- the updates that these entries of the writer made, and how many answers these entries of a pass gave
-  abbrev pub log_of : ℕ → Origin (Signals C) → List Entry → List client.Update
-  log_of first origin entries = client.log first (inside origin) entries
+  abbrev pub log_by : ℕ → Origin (Signals C) → List Entry → List client.Update
+  log_by first origin entries = client.log first (inside origin) entries
 
-  abbrev pub answers_of : ℕ → Origin (Signals C) → List Entry → ℕ
-  answers_of first origin entries = client.answered first (inside origin) entries
+  abbrev pub answers_by : ℕ → Origin (Signals C) → List Entry → ℕ
+  answers_by first origin entries = client.answered first (inside origin) entries
 
   -- The entries of the calls, each by a token that has this account so far: `mark` stores the length of the log
   abbrev pub IsMark : ℕ → Origin (Signals C) → Account → Entry → Type 0
-  IsMark first origin a e = (a.number ≡ 0) × (e ≡ marks (applied_at first origin) (length (log_of first origin a.entries)))
+  IsMark first origin a e = (a.number ≡ 0) × (e ≡ marks (applied_at first origin) (length (log_by first origin a.entries)))
 
   -- `reached` loads it
   abbrev pub IsReached : ℕ → Origin (Signals C) → Account → Entry → Type 0
@@ -54,7 +54,7 @@ module _ {C : Type 0} (client : Client C) where
 
   -- `note` stores how many answers the pass has given, in the word of its record
   abbrev pub IsNote : ℕ → Origin (Signals C) → Account → Entry → Type 0
-  IsNote first origin a e = (r : ℕ) × (a.number ≡ suc r) × (r < readers origin) × (e ≡ notes (answered_at first origin r) (answers_of first origin a.entries))
+  IsNote first origin a e = (r : ℕ) × (a.number ≡ suc r) × (r < readers origin) × (e ≡ notes (answered_at first origin r) (answers_by first origin a.entries))
 
   -- `answered` loads that of a reader
   abbrev pub IsAnswered : ℕ → Origin (Signals C) → Account → Entry → Type 0
@@ -78,8 +78,8 @@ module _ {C : Type 0} (client : Client C) where
     retires = λ c item. client.retires c.client item;
     home = λ c item. client.home c.client item;
     Update = client.Update;
-    log = log_of;
-    answered = answers_of;
+    log = log_by;
+    answered = answers_by;
   }
 
   -- the accounts of a domain with signals, as far as the signal words go

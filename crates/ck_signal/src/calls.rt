@@ -2,11 +2,11 @@
 ghost use Rattle.std.specs.Prelude.{◌≡◌, ℕ, ◌+◌, ◌<◌, ◌≤◌, ◌^◌, [], ◌∷◌, length, MatchResult, IfOk};
 ghost use Rattle.ck_run.specs.Tokens.{table, adding, did};
 ghost use Rattle.ck_epoch.specs.State.{depth, records_of, state};
-ghost use Rattle.ck_epoch.specs.Ends.{IsInRun};
+ghost use Rattle.ck_epoch.specs.Ends.{IsDomainToken};
 ghost use Rattle.ck_epoch.specs.Calls.{rec_of};
 ghost use Rattle.ck_signal.specs.Words.{marks, reaches, notes, asks, mark as marking, reached as reaching, note as noting, answered as asking};
 ghost use Rattle.ck_signal.specs.Signals.{readers, signals};
-ghost use Rattle.ck_signal.specs.Told.{applied, answered as answered_at, log, answers, HasSeen, HasBeenTold};
+ghost use Rattle.ck_signal.specs.Told.{applied_word_of, answered_word_of, writer_log, pass_answers, HasSeen, HasBeenTold};
 
 use crate::signals::{Signals, answered_word, applied_word};
 use ck_epoch::{Client, Domain, Pass, Writer};
@@ -16,10 +16,10 @@ use std::marker::Brand;
 /// Stores the length of the log in `applied`.
 pub fn mark<C: Client, F>(domain: &Domain<Signals<C>>, writer: &mut Writer<Signals<C>, F>)
     requires table { table writer.old.token ≡ domain.now }
-    requires tally { writer.old.tally ≡ length (log C.meaning writer.old.token) }
-    ensures step { writer.new ≡ record writer.old { token = adding writer.old.token (marks (applied C.meaning domain.now.origin) (length (log C.meaning writer.old.token)) ∷ []) } }
+    requires tally { writer.old.tally ≡ length (writer_log C.meaning writer.old.token) }
+    ensures step { writer.new ≡ record writer.old { token = adding writer.old.token (marks (applied_word_of C.meaning domain.now.origin) (length (writer_log C.meaning writer.old.token)) ∷ []) } }
     ensures same { ((state writer.new.token).pending ≡ (state writer.old.token).pending) × ((state writer.new.token).dispatched ≡ (state writer.old.token).dispatched) × ((state writer.new.token).epoch ≡ (state writer.old.token).epoch) }
-    ensures part { IsInRun (signals C.meaning) writer.new.token }
+    ensures part { IsDomainToken (signals C.meaning) writer.new.token }
 {
     let updates = writer.tally();
     domain.write::<Brand, F>(writer, applied_word(domain.client()), updates);
@@ -33,9 +33,9 @@ fn load_applied<C: Client, O: Opens>(
 ) -> u64
     requires table { table pass.old.token ≡ domain.now }
     requires name { O.opens ≡ reaching ∷ wanted ∷ [] }
-    ensures step { pass.new ≡ record pass.old { token = adding pass.old.token (reaches (applied C.meaning domain.now.origin) wanted result ∷ []) } }
+    ensures step { pass.new ≡ record pass.old { token = adding pass.old.token (reaches (applied_word_of C.meaning domain.now.origin) wanted result ∷ []) } }
     ensures depth { depth pass.new.token ≡ depth pass.old.token }
-    ensures part { IsInRun (signals C.meaning) pass.new.token }
+    ensures part { IsDomainToken (signals C.meaning) pass.new.token }
 {
     domain.read::<O>(pass, applied_word(domain.client()))
 }
@@ -50,11 +50,11 @@ pub fn reached<C: Client>(
 ) -> Result<(), u64>
     requires table { table pass.old.token ≡ domain.now }
     ensures step { MatchResult result
-        (λ _. (found : ℕ) × (n ≤ found) × (pass.new ≡ record pass.old { token = adding pass.old.token (reaches (applied C.meaning domain.now.origin) n found ∷ []) }))
-        (λ found. (found < n) × (pass.new ≡ record pass.old { token = adding pass.old.token (reaches (applied C.meaning domain.now.origin) n found ∷ []) })) }
+        (λ _. (found : ℕ) × (n ≤ found) × (pass.new ≡ record pass.old { token = adding pass.old.token (reaches (applied_word_of C.meaning domain.now.origin) n found ∷ []) }))
+        (λ found. (found < n) × (pass.new ≡ record pass.old { token = adding pass.old.token (reaches (applied_word_of C.meaning domain.now.origin) n found ∷ []) })) }
     ensures seen { IfOk result (λ _. HasSeen C.meaning pass.new.token n) }
     ensures depth { depth pass.new.token ≡ depth pass.old.token }
-    ensures part { IsInRun (signals C.meaning) pass.new.token }
+    ensures part { IsDomainToken (signals C.meaning) pass.new.token }
 {
     let found = load_applied::<C, Brand>(domain, pass, n);
     if found >= n { Ok(()) } else { Err(found) }
@@ -64,10 +64,10 @@ pub fn reached<C: Client>(
 pub fn note<C: Client>(domain: &Domain<Signals<C>>, pass: &mut Pass<Signals<C>>)
     requires table { table pass.old.token ≡ domain.now }
     requires records { records_of domain.now.origin ≡ readers domain.now.origin }
-    requires tally { pass.old.tally ≡ answers C.meaning pass.old.token }
-    ensures step { pass.new ≡ record pass.old { token = adding pass.old.token (notes (answered_at C.meaning domain.now.origin (rec_of pass.old.token)) (answers C.meaning pass.old.token) ∷ []) } }
+    requires tally { pass.old.tally ≡ pass_answers C.meaning pass.old.token }
+    ensures step { pass.new ≡ record pass.old { token = adding pass.old.token (notes (answered_word_of C.meaning domain.now.origin (rec_of pass.old.token)) (pass_answers C.meaning pass.old.token) ∷ []) } }
     ensures depth { depth pass.new.token ≡ depth pass.old.token }
-    ensures part { IsInRun (signals C.meaning) pass.new.token }
+    ensures part { IsDomainToken (signals C.meaning) pass.new.token }
 {
     let word = answered_word(domain.client(), pass.rec());
     let answers = pass.tally();
@@ -83,9 +83,9 @@ fn load_answered<C: Client, F, O: Opens>(
     requires table { table writer.old.token ≡ domain.now }
     requires reader { reader < readers domain.now.origin }
     requires name { O.opens ≡ asking ∷ reader ∷ [] }
-    ensures step { writer.new ≡ record writer.old { token = adding writer.old.token (asks (answered_at C.meaning domain.now.origin reader) reader result ∷ []) } }
+    ensures step { writer.new ≡ record writer.old { token = adding writer.old.token (asks (answered_word_of C.meaning domain.now.origin reader) reader result ∷ []) } }
     ensures same { ((state writer.new.token).pending ≡ (state writer.old.token).pending) × ((state writer.new.token).dispatched ≡ (state writer.old.token).dispatched) × ((state writer.new.token).epoch ≡ (state writer.old.token).epoch) }
-    ensures part { IsInRun (signals C.meaning) writer.new.token }
+    ensures part { IsDomainToken (signals C.meaning) writer.new.token }
 {
     domain.ask::<O, F>(writer, answered_word(domain.client(), reader))
 }
@@ -100,10 +100,10 @@ pub fn answered<C: Client, F>(
 ) -> u64
     requires table { table writer.old.token ≡ domain.now }
     requires reader { reader < readers domain.now.origin }
-    ensures step { writer.new ≡ record writer.old { token = adding writer.old.token (asks (answered_at C.meaning domain.now.origin reader) reader result ∷ []) } }
+    ensures step { writer.new ≡ record writer.old { token = adding writer.old.token (asks (answered_word_of C.meaning domain.now.origin reader) reader result ∷ []) } }
     ensures places { HasBeenTold C.meaning writer.new.token reader result (did writer.old.token) }
     ensures same { ((state writer.new.token).pending ≡ (state writer.old.token).pending) × ((state writer.new.token).dispatched ≡ (state writer.old.token).dispatched) × ((state writer.new.token).epoch ≡ (state writer.old.token).epoch) }
-    ensures part { IsInRun (signals C.meaning) writer.new.token }
+    ensures part { IsDomainToken (signals C.meaning) writer.new.token }
 {
     load_answered::<C, F, Brand>(domain, writer, reader)
 }

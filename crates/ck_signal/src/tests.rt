@@ -1,12 +1,14 @@
-ghost use Rattle.std.specs.Prelude.{◌≡◌, ◌+◌, ◌<◌, ◌^◌, length};
+ghost use Rattle.std.specs.Prelude.{◌≡◌, ◌+◌, ◌<◌, ◌^◌, length, IfOk};
 ghost use Rattle.ck_run.specs.Tokens.{table};
-ghost use Rattle.ck_signal.specs.Told.{log, answers};
+ghost use Rattle.ck_run.specs.Ends.{fresh};
+ghost use Rattle.ck_signal.specs.Told.{writer_log, pass_answers};
 ghost use Rattle.ck_epoch.specs.State.{records_of};
 ghost use Rattle.ck_signal.specs.Signals.{readers};
 
 use crate::{Signals, answered, mark, note, reached};
 use ck_epoch::{Client, Domain, Item, Pass, Within, Writer};
 use ck_words::Back;
+use std::alloc::{AllocError, Global};
 use std::marker::Brand;
 use std::test::Fail;
 use std::thread::join_mut;
@@ -72,7 +74,7 @@ impl Within<Counter> for Counter {
 fn update<F>(domain: &Domain<Signals<Counter>>, writer: &mut Writer<Signals<Counter>, F>)
     requires table { table writer.old.token ≡ domain.now }
     requires calls { writer.old.calls < 2 ^ 32 }
-    requires tally { (writer.old.tally ≡ length (log ⟦<Counter as Client>⟧.meaning writer.old.token)) × (writer.old.tally < 2 ^ 32) }
+    requires tally { (writer.old.tally ≡ length (writer_log ⟦<Counter as Client>⟧.meaning writer.old.token)) × (writer.old.tally < 2 ^ 32) }
     ensures { table writer.new.token ≡ table writer.old.token }
 {
     let updates = writer.tally() + 1;
@@ -86,7 +88,7 @@ fn look(domain: &Domain<Signals<Counter>>, pass: &mut Pass<Signals<Counter>>)
     requires table { table pass.old.token ≡ domain.now }
     requires records { records_of domain.now.origin ≡ readers domain.now.origin }
     requires calls { pass.old.calls < 2 ^ 32 }
-    requires tally { (pass.old.tally ≡ answers ⟦<Counter as Client>⟧.meaning pass.old.token) × (pass.old.tally < 2 ^ 32) }
+    requires tally { (pass.old.tally ≡ pass_answers ⟦<Counter as Client>⟧.meaning pass.old.token) × (pass.old.tally < 2 ^ 32) }
     ensures { table pass.new.token ≡ table pass.old.token }
 {
     let _found = domain.read::<Brand>(pass, 0);
@@ -103,16 +105,31 @@ fn home(item: Item) -> Back {
     }
 }
 
+/// A domain of a counter with signals and one record: its writer and its pass.
+fn one_reader<F: Fn(Item) -> Back + Drop>(
+    alloc: Global,
+    handler: F,
+) -> Result<
+    (
+        Domain<Signals<Counter>>,
+        Writer<Signals<Counter>, F>,
+        Pass<Signals<Counter>>,
+    ),
+    AllocError,
+>
+    ensures about { IfOk result (λ r. (r.0.origin.config.records ≡ 1) × (r.0.origin.config.client.records ≡ 1)) }
+    ensures writer { IfOk result (λ r. (r.1.token ≡ fresh r.0 0) × (r.1.calls ≡ 0) × (r.1.tally ≡ 0)) }
+    ensures pass { IfOk result (λ r. (r.2.token ≡ fresh r.0 1) × (r.2.calls ≡ 0) × (r.2.tally ≡ 0)) }
+{
+    let signals = Signals::new(Counter, 1);
+    let (domain, writer, mut passes) = Domain::new(alloc, signals, 1, 1, handler)?;
+    let pass = passes.pop().unwrap();
+    Ok((domain, writer, pass))
+}
+
 #[test]
 fn tells_nothing_at_first(rt: HostRuntime) -> Result<(), Fail> {
-    let (domain, mut writer, mut passes) = Domain::new(
-        rt.alloc(),
-        Signals::new(Counter, 1),
-        1,
-        1,
-        |item: Item| home(item),
-    )?;
-    let mut pass = passes.pop().unwrap();
+    let (domain, mut writer, mut pass) = one_reader(rt.alloc(), |item: Item| home(item))?;
     assert_eq!(rt; reached(&domain, &mut pass, 0), Ok(()));
     assert_eq!(rt; reached(&domain, &mut pass, 1), Err(0));
     assert_eq!(rt; answered(&domain, &mut writer, 0), 0);
@@ -121,14 +138,7 @@ fn tells_nothing_at_first(rt: HostRuntime) -> Result<(), Fail> {
 
 #[test]
 fn tells_across_threads(rt: HostRuntime) -> Result<(), Fail> {
-    let (domain, mut writer, mut passes) = Domain::new(
-        rt.alloc(),
-        Signals::new(Counter, 1),
-        1,
-        1,
-        |item: Item| home(item),
-    )?;
-    let mut pass = passes.pop().unwrap();
+    let (domain, mut writer, mut pass) = one_reader(rt.alloc(), |item: Item| home(item))?;
     join_mut(
         &rt,
         &mut || update(&domain, &mut writer),

@@ -3,7 +3,7 @@ use Rattle.ck_run.specs.Tokens.{table, origin}
 use Rattle.ck_epoch.specs.State.{Token, Retirement, queue, off_list, state}
 use Rattle.ck_epoch.specs.Lists.{on, off}
 use Rattle.ck_epoch.specs.declared.answers.Poll.TheVariants.{Clear, Moved, Blocked}
-use Rattle.ck_epoch.specs.Calls.{gone}
+use Rattle.ck_epoch.specs.Calls.{dispatched_items}
 use Rattle.ck_epoch.specs.Ends.{Writer}
 use Rattle.ck_epoch.proofs.Polled.{config_is, were_retired, none_on, none_on_yet, left_retired, left_queue, rest_retired, rest_queue, writer_after, calls_after, kept_one, kept_two, gone_one, gone_two, gone_all, waits_two, waits_all, count_two, count_all, told_waiting, told_count}
 use Rattle.ck_epoch.proofs.Emptying.{are_dispatched}
@@ -137,8 +137,8 @@ returns-in-Clear-clause-dispatched g c =
     let scanning = c.start_poll-epoch.ensures.scanning in
     let did = c.in-Clear.ensures.outcome t scanning in
     ap queue did.1.dispatched_is ∙ (gone_all c.start_poll-epoch.result (state t)
-    ∙ (ap (λ (e : ℕ). queue (state t).dispatched ++ gone e (Clear 0) (queue (state t).pending)) (sym scanning.epoch.0)
-    ∙ ap (λ (v : Writer g.row.C.Denot g.row.F.Denot). queue (state v.token).dispatched ++ gone (state v.token).epoch (Clear 0) (queue (state v.token).pending)) c.writer.view_is))
+    ∙ (ap (λ (e : ℕ). queue (state t).dispatched ++ dispatched_items e (Clear 0) (queue (state t).pending)) (sym scanning.epoch.0)
+    ∙ ap (λ (v : Writer g.row.C.Denot g.row.F.Denot). queue (state v.token).dispatched ++ dispatched_items (state v.token).epoch (Clear 0) (queue (state v.token).pending)) c.writer.view_is))
 
 pub returns-in-Current-clause-dispatched : goal.returns-in-Current-clause-dispatched
 returns-in-Current-clause-dispatched g c =
@@ -146,8 +146,8 @@ returns-in-Current-clause-dispatched g c =
     let scanning = c.start_poll-epoch.ensures.scanning in
     let did = c.in-Current.ensures.outcome t scanning in
     ap queue did.1.dispatched_is ∙ (gone_two c.start_poll-epoch.result (state t)
-    ∙ (ap (λ (e : ℕ). queue (state t).dispatched ++ gone e (Moved 0 0) (queue (state t).pending)) (sym scanning.epoch.0)
-    ∙ ap (λ (v : Writer g.row.C.Denot g.row.F.Denot). queue (state v.token).dispatched ++ gone (state v.token).epoch (Moved 0 0) (queue (state v.token).pending)) c.writer.view_is))
+    ∙ (ap (λ (e : ℕ). queue (state t).dispatched ++ dispatched_items e (Moved 0 0) (queue (state t).pending)) (sym scanning.epoch.0)
+    ∙ ap (λ (v : Writer g.row.C.Denot g.row.F.Denot). queue (state v.token).dispatched ++ dispatched_items (state v.token).epoch (Moved 0 0) (queue (state v.token).pending)) c.writer.view_is))
 
 pub returns-in-Behind-clause-dispatched : goal.returns-in-Behind-clause-dispatched
 returns-in-Behind-clause-dispatched g c =
@@ -155,5 +155,5 @@ returns-in-Behind-clause-dispatched g c =
     let scanning = c.start_poll-epoch.ensures.scanning in
     let did = c.in-Behind.ensures.outcome t scanning in
     ap queue did.1.dispatched_is ∙ (gone_one c.start_poll-epoch.result (state t)
-    ∙ (ap (λ (e : ℕ). queue (state t).dispatched ++ gone e (Blocked 0 0 0) (queue (state t).pending)) (sym scanning.epoch.0)
-    ∙ ap (λ (v : Writer g.row.C.Denot g.row.F.Denot). queue (state v.token).dispatched ++ gone (state v.token).epoch (Blocked 0 0 0) (queue (state v.token).pending)) c.writer.view_is))
+    ∙ (ap (λ (e : ℕ). queue (state t).dispatched ++ dispatched_items e (Blocked 0 0 0) (queue (state t).pending)) (sym scanning.epoch.0)
+    ∙ ap (λ (v : Writer g.row.C.Denot g.row.F.Denot). queue (state v.token).dispatched ++ dispatched_items (state v.token).epoch (Blocked 0 0 0) (queue (state v.token).pending)) c.writer.view_is))
