@@ -14,9 +14,9 @@ use Rattle.ck_script.specs.declared.line.UpLine.{UpLine}
 use Rattle.ck_script.specs.declared.line.AskLine.{AskLine}
 use Rattle.ck_script.specs.Script.{said_of, holds, bounded_files, script_of}
 use Rattle.ck_script.specs.Script as script
-use Rattle.ck_snap.specs.Log.{Log, capacity, updates, AreReplies, map_after}
-use Rattle.ck_snap.specs.Places.{Writing, log_in, ArePlacedIn}
-use Rattle.ck_snap.specs.Tokens.{Dictionary, PassView, fresh_pass, AreFresh, look_of}
+use Rattle.ck_snap.specs.Log.{Log, most_pairs, updates, AreReplies, map_after}
+use Rattle.ck_snap.specs.Places.{Writing, log_of_events, ArePlacedIn}
+use Rattle.ck_snap.specs.Tokens.{Dictionary, PassView, fresh_pass, AreFreshSnapPasses, look_of}
 use Rattle.ck_pool.specs.Runs.{UpdatesRan}
 use Rattle.ck_pool.specs.Places.{AreUnused, AllPlaced}
 use Rattle.ck_pool.specs.Served.{AreReady, AreNumbered, AreServed}
@@ -44,7 +44,7 @@ places_from (p ∷ ps) zero = p.places
 places_from (p ∷ ps) (suc f) = places_from ps f
 
 passes_placed : (snap : Dictionary) (log : Log) (places : ℕ → List ℕ) (f : ℕ) (ps : List PassView) → ((j : ℕ) → places (f + j) ≡ places_from ps j) → AreTied log ps
-    → AllPlaced (snap_eye snap) (length log) (answer_after nat_cmp capacity (updates log)) places f ps
+    → AllPlaced (snap_eye snap) (length log) (answer_after nat_cmp most_pairs (updates log)) places f ps
 passes_placed snap log places f [] same tied = tt
 passes_placed snap log places f (p ∷ ps) same tied =
     let here : places f ≡ p.places = let z : f + 0 ≡ f = omega arith in ap places (sym z) ∙ same 0 in (
@@ -52,12 +52,12 @@ passes_placed snap log places f (p ∷ ps) same tied =
       passes_placed snap log places (f + 1) ps (λ j. let z : f + 1 + j ≡ f + suc j = omega arith in ap places z ∙ same (suc j)) tied.1,
     )
 
-updates_logged : (es : Writing) → updates_in es ≡ updates (log_in es)
+updates_logged : (es : Writing) → updates_in es ≡ updates (log_of_events es)
 updates_logged [] = refl
 updates_logged (Updated u r ∷ es) = ap (λ (x : List (Update ℕ)). u ∷ x) (updates_logged es)
 updates_logged (Told r n ∷ es) = updates_logged es
 
-replies_logged : (es : Writing) → replies_in es ≡ map (λ e. e.reply) (log_in es)
+replies_logged : (es : Writing) → replies_in es ≡ map (λ e. e.reply) (log_of_events es)
 replies_logged [] = refl
 replies_logged (Updated u r ∷ es) = ap (λ (x : List Reply). r ∷ x) (replies_logged es)
 replies_logged (Told r n ∷ es) = replies_logged es
@@ -68,32 +68,32 @@ module _ (snap : Dictionary) (ups : List (Numbered (UpLine (Update ℕ)))) (done
   abbrev asked : List (Update ℕ)
   asked = script.updates (said_of ups)
 
-  made : asked ≡ updates (log_in done)
+  made : asked ≡ updates (log_of_events done)
   made = (calls_ran ups done rs ran).0 ∙ updates_logged done
 
-  pub snap_replies : AreReplies (log_in done) → rs ≡ replies nat_cmp capacity asked
+  pub snap_replies : AreReplies (log_of_events done) → rs ≡ replies nat_cmp most_pairs asked
   snap_replies map_replies =
-      (calls_ran ups done rs ran).1 ∙ (replies_logged done ∙ (map_replies ∙ ap (λ (u : List (Update ℕ)). replies nat_cmp capacity u) (sym made)))
+      (calls_ran ups done rs ran).1 ∙ (replies_logged done ∙ (map_replies ∙ ap (λ (u : List (Update ℕ)). replies nat_cmp most_pairs u) (sym made)))
 
-  pub snap_pairs : map_after (log_in done) ≡ after nat_cmp capacity asked (length asked)
+  pub snap_pairs : map_after (log_of_events done) ≡ after nat_cmp most_pairs asked (length asked)
   snap_pairs =
-      ap (λ (u : List (Update ℕ)). after_from nat_cmp capacity [] u) (sym made)
-      ∙ ap (λ (u : List (Update ℕ)). after_from nat_cmp capacity [] u) (sym (take_all (length asked) asked (omega arith)))
+      ap (λ (u : List (Update ℕ)). after_from nat_cmp most_pairs [] u) (sym made)
+      ∙ ap (λ (u : List (Update ℕ)). after_from nat_cmp most_pairs [] u) (sym (take_all (length asked) asked (omega arith)))
 
   pub snap_legal : (es : List PassView) (asks : List (List (Numbered (AskLine ℕ)))) (backs : List PassView) (bss : List (List (Option ℕ)))
-      → holds 0 (said_of ups) ≡ [] → AreUnused (snap_eye snap) es → AreServed (snap_eye snap) es asks backs bss → AreTied (log_in done) backs
-      → AllLegal (length asked) (answer_after nat_cmp capacity asked) (bounded_files (length asked) (holds 0 (said_of ups)) 1 (map said_of asks)) bss
+      → holds 0 (said_of ups) ≡ [] → AreUnused (snap_eye snap) es → AreServed (snap_eye snap) es asks backs bss → AreTied (log_of_events done) backs
+      → AllLegal (length asked) (answer_after nat_cmp most_pairs asked) (bounded_files (length asked) (holds 0 (said_of ups)) 1 (map said_of asks)) bss
   snap_legal es asks backs bss no_hold unused served tied =
-      let log = log_in done in
+      let log = log_of_events done in
       let hs = holds 0 (said_of ups) in
       let kept : HoldsKept (places_from backs) hs = subst (λ hs. HoldsKept (places_from backs) hs) (sym no_hold) tt in
       let placed = passes_placed snap log (places_from backs) 0 backs (λ j. let z : 0 + j ≡ j = omega arith in ap (places_from backs) z) tied in
-      let legal = files_legal (snap_eye snap) (length log) (answer_after nat_cmp capacity (updates log)) (places_from backs) hs kept 0 es asks backs bss unused served placed in
-      let first : AllLegal (length log) (answer_after nat_cmp capacity (updates log)) (bounded_files (length log) hs 1 (map said_of asks)) bss =
-      subst (λ (k : ℕ). AllLegal (length log) (answer_after nat_cmp capacity (updates log)) (bounded_files (length log) hs k (map said_of asks)) bss) (zero-add 1) legal in
-      let counted : AllLegal (length (updates log)) (answer_after nat_cmp capacity (updates log)) (bounded_files (length (updates log)) hs 1 (map said_of asks)) bss =
-      subst (λ (n : ℕ). AllLegal n (answer_after nat_cmp capacity (updates log)) (bounded_files n hs 1 (map said_of asks)) bss) (sym (updates_long log)) first in
-      subst (λ (u : List (Update ℕ)). AllLegal (length u) (answer_after nat_cmp capacity u) (bounded_files (length u) hs 1 (map said_of asks)) bss) (sym made) counted
+      let legal = files_legal (snap_eye snap) (length log) (answer_after nat_cmp most_pairs (updates log)) (places_from backs) hs kept 0 es asks backs bss unused served placed in
+      let first : AllLegal (length log) (answer_after nat_cmp most_pairs (updates log)) (bounded_files (length log) hs 1 (map said_of asks)) bss =
+      subst (λ (k : ℕ). AllLegal (length log) (answer_after nat_cmp most_pairs (updates log)) (bounded_files (length log) hs k (map said_of asks)) bss) (zero-add 1) legal in
+      let counted : AllLegal (length (updates log)) (answer_after nat_cmp most_pairs (updates log)) (bounded_files (length (updates log)) hs 1 (map said_of asks)) bss =
+      subst (λ (n : ℕ). AllLegal n (answer_after nat_cmp most_pairs (updates log)) (bounded_files n hs 1 (map said_of asks)) bss) (sym (updates_long log)) first in
+      subst (λ (u : List (Update ℕ)). AllLegal (length u) (answer_after nat_cmp most_pairs u) (bounded_files (length u) hs 1 (map said_of asks)) bss) (sym made) counted
 
 -- one more pass that is tied
 tied_at : (log : Log) (ps : List PassView) (p : PassView) → ArePlacedIn log p.done p.places → AreTied log ps → AreTied log (ps ++ p ∷ [])
@@ -104,7 +104,7 @@ pub tied_snoc : (log : Log) (ps qs : List PassView) (p : PassView) → qs ≡ ps
 tied_snoc log ps qs p whole placed tied = subst (λ (l : List PassView). AreTied log l) (sym whole) (tied_at log ps p placed tied)
 
 -- the passes of a new dictionary are ready and numbered, and nothing was done with them
-pub fresh_ready : (snap : Dictionary) (n : ℕ) (ps : List PassView) → n + length ps ≤ snap.readers → AreFresh snap n ps → AreReady (snap_eye snap) ps
+pub fresh_ready : (snap : Dictionary) (n : ℕ) (ps : List PassView) → n + length ps ≤ snap.readers → AreFreshSnapPasses snap n ps → AreReady (snap_eye snap) ps
 fresh_ready snap n [] le fresh f e is = cc
 fresh_ready snap n (p ∷ ps) le fresh zero e is =
     let same : e ≡ fresh_pass snap n = sym (some_same p e is) ∙ fresh.0 in (
@@ -116,10 +116,10 @@ fresh_ready snap n (p ∷ ps) le fresh zero e is =
     )
 fresh_ready snap n (p ∷ ps) le fresh (suc f) e is = fresh_ready snap (n + 1) ps (omega arith) fresh.1 f e is
 
-pub fresh_numbered : (snap : Dictionary) (n : ℕ) (ps : List PassView) → AreFresh snap n ps → AreNumbered (snap_eye snap) n ps
+pub fresh_numbered : (snap : Dictionary) (n : ℕ) (ps : List PassView) → AreFreshSnapPasses snap n ps → AreNumbered (snap_eye snap) n ps
 fresh_numbered snap n [] fresh = tt
 fresh_numbered snap n (p ∷ ps) fresh = (ap (λ (x : PassView). x.number) fresh.0, fresh_numbered snap (n + 1) ps fresh.1)
 
-pub fresh_unused : (snap : Dictionary) (n : ℕ) (ps : List PassView) → AreFresh snap n ps → AreUnused (snap_eye snap) ps
+pub fresh_unused : (snap : Dictionary) (n : ℕ) (ps : List PassView) → AreFreshSnapPasses snap n ps → AreUnused (snap_eye snap) ps
 fresh_unused snap n [] fresh = tt
 fresh_unused snap n (p ∷ ps) fresh = (ap (λ (x : PassView). x.done) fresh.0, fresh_unused snap (n + 1) ps fresh.1)

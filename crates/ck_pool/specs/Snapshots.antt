@@ -10,7 +10,7 @@ use Rattle.ck_script.specs.declared.line.Numbered.{Numbered}
 use Rattle.ck_script.specs.declared.line.UpLine.{UpLine}
 use Rattle.ck_script.specs.declared.line.AskLine.{AskLine}
 use Rattle.ck_script.specs.Script.{said_of, Script, script_of}
-use Rattle.ck_snap.specs.Log.{Log, capacity}
+use Rattle.ck_snap.specs.Log.{Log, most_pairs}
 use Rattle.ck_snap.specs.Places.{ArePlacedIn}
 use Rattle.ck_snap.specs.Tokens.{Dictionary, WriterView, PassView, IsWriterOf, IsPassOf}
 use Rattle.ck_pool.specs.declared.answered.Answered.{Answered}
@@ -34,6 +34,6 @@ job_script ups asks = script_of (said_of ups) (map said_of (map (λ file. file.i
 
 -- The replies are those of the map of one thread, the pairs are those of that map after all updates, and the answers of each file are legal
 pub record IsAnswered (script : Script ℕ) (x : Answered) : Type 0 where
-  pub replied : x.replies.items ≡ replies nat_cmp capacity script.updates
-  pub legal : AllLegal (length script.updates) (answer_after nat_cmp capacity script.updates) script.files (map (λ file. file.items) x.answers.items)
-  pub paired : x.pairs.items ≡ after nat_cmp capacity script.updates (length script.updates)
+  pub replied : x.replies.items ≡ replies nat_cmp most_pairs script.updates
+  pub legal : AllLegal (length script.updates) (answer_after nat_cmp most_pairs script.updates) script.files (map (λ file. file.items) x.answers.items)
+  pub paired : x.pairs.items ≡ after nat_cmp most_pairs script.updates (length script.updates)

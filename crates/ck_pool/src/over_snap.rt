@@ -2,7 +2,7 @@
 ghost use Rattle.std.specs.Prelude.{◌≡◌, ◌<◌, ◌≤◌, ◌^◌, [], length, vec_len, map, IfOk, OnOk, All, None};
 ghost use Rattle.ck_script.specs.Script.{said_of, holds};
 ghost use Rattle.ck_script.specs.Checks.{range_fault};
-ghost use Rattle.ck_snap.specs.Tokens.{IsWriterOf, IsPassOf, AreFresh, fresh_writer, log};
+ghost use Rattle.ck_snap.specs.Tokens.{IsWriterOf, IsPassOf, AreFreshSnapPasses, fresh_writer, log};
 ghost use Rattle.ck_pool.specs.Served.{line_total};
 ghost use Rattle.ck_pool.specs.Snapshots.{AreTied, job_script, IsAnswered};
 
@@ -48,7 +48,7 @@ fn serve_and_tie<G: Gate + Sync, R: Threads + Wait + Sync>(
     gate: &G,
 ) -> Result<Answered, AllocError>
     requires hand { hand.old ≡ fresh_writer snap.now }
-    requires passes { AreFresh snap.now 0 passes.items × (vec_len passes ≡ length job.now.asks.items) × (snap.now.readers ≡ length job.now.asks.items) }
+    requires passes { AreFreshSnapPasses snap.now 0 passes.items × (vec_len passes ≡ length job.now.asks.items) × (snap.now.readers ≡ length job.now.asks.items) }
     requires files { (1 ≤ length job.now.asks.items) × (length job.now.asks.items ≤ 64) }
     requires workers { (1 ≤ workers) × (workers ≤ 16) }
     requires lines { line_total job.now.ups.items job.now.asks.items ≤ 4000000 }

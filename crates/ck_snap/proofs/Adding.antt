@@ -9,7 +9,7 @@ use prog.Atomic.{either}
 use Rattle.logbook.specs.Pages.{Cell, cell, keeps, gives, adds, Nib, no_nib, may_write, step, View, Moves, Goes}
 use Rattle.ck_snap.specs.declared.log.Link.{Link}
 use Rattle.ck_snap.specs.Log.{Log, last_of}
-use Rattle.ck_snap.specs.Growing.{entries, is_home, AreHome, EndsWith, begun, IsKept, Makes, Begins, Extends}
+use Rattle.ck_snap.specs.Growing.{entries, is_home, AreHome, EndsWith, begun, IsLogKept, MakesCell, BeginsLog, Extends}
 
 abbrev pub shown : List Link → List Link
 shown links = []
@@ -87,7 +87,7 @@ same_number x = go (x == 1) refl
     go false e = refl
 
 -- the shared word after an exchange that writes y
-word_set : (cs : List Cell) (links : List Link) (y : ℕ) → IsKept cs links → cell (set cs 0 (y, true)) 0 ≡ (y, true)
+word_set : (cs : List Cell) (links : List Link) (y : ℕ) → IsLogKept cs links → cell (set cs 0 (y, true)) 0 ≡ (y, true)
 word_set cs links y kept = get_or-set_same cs 0 (y, true) (0, false) (home_within cs 0 (ap (λ (c : Cell). c.1) kept.word))
 
 module _ (v : List Link) (t : Link) where
@@ -95,29 +95,29 @@ module _ (v : List Link) (t : Link) where
   bare = (v, (no_nib, None))
 
   -- a cell is added at any time
-  pub make_moves : Moves IsKept shown moved 0 bare (written 1) (Makes (step 0 1 1 t) bare)
+  pub make_moves : Moves IsLogKept shown moved 0 bare (written 1) (MakesCell (step 0 1 1 t) bare)
   make_moves cs log kept pre away =
       let home = ap (λ (c : Cell). c.1) kept.word in
       let x = written 1 (cell cs 0).0 in
       let cs' = set cs 0 (x, true) in
       let there : 0 < length cs' = let z = home_within cs 0 home in let e = length-set cs 0 (x, true) in omega arith in
       let same : x ≡ begun log = same_number (cell cs 0).0 ∙ ap (λ (c : Cell). c.0) kept.word in
-      let after : IsKept (cs' ++ (0, false) ∷ []) log = record {
+      let after : IsLogKept (cs' ++ (0, false) ∷ []) log = record {
         word = get_or_append_left cs' ((0, false) ∷ []) (0, false) 0 there ∙ (word_set cs log x kept ∙ ap (λ (y : ℕ). (y, true)) same);
         used = all_home cs (cs' ++ (0, false) ∷ []) (λ k h. home_more cs' (0, false) k (home_set cs 0 x k h)) log kept.used;
       } in
-      let more : IsKept (cs' ++ (0, false) ∷ []) (log ++ []) = subst (λ (ls : List Link). IsKept (cs' ++ (0, false) ∷ []) ls) (sym (append-nil log)) after in
-      let goes : Goes IsKept shown moved 0 bare (written 1) (Makes (step 0 1 1 t) bare) cs log = (adds, [], None, tt, more, inl (refl, refl), refl) in
+      let more : IsLogKept (cs' ++ (0, false) ∷ []) (log ++ []) = subst (λ (ls : List Link). IsLogKept (cs' ++ (0, false) ∷ []) ls) (sym (append-nil log)) after in
+      let goes : Goes IsLogKept shown moved 0 bare (written 1) (MakesCell (step 0 1 1 t) bare) cs log = (adds, [], None, tt, more, inl (refl, refl), refl) in
       (home_within cs 0 home, home, goes)
 
   -- the first link is added where there is none
-  pub begin_moves : Moves IsKept shown moved 0 bare (written 0) (Begins (step 0 0 1 t) bare)
+  pub begin_moves : Moves IsLogKept shown moved 0 bare (written 0) (BeginsLog (step 0 0 1 t) bare)
   begin_moves cs log kept pre away = (home_within cs 0 home, home, goes ((cell cs 0).0 == 0) refl)
     where
       home : is_home cs 0 ≡ true
       home = ap (λ (c : Cell). c.1) kept.word
 
-      goes : (b : Bool) → ((cell cs 0).0 == 0) ≡ b → Goes IsKept shown moved 0 bare (written 0) (Begins (step 0 0 1 t) bare) cs log
+      goes : (b : Bool) → ((cell cs 0).0 == 0) ≡ b → Goes IsLogKept shown moved 0 bare (written 0) (BeginsLog (step 0 0 1 t) bare) cs log
       goes true e =
           let none : (cell cs 0).0 ≡ 0 = grind (arith, nat_tests) in
           let empty : log ≡ [] = not_begun log (sym (ap (λ (c : Cell). c.0) kept.word) ∙ none) in
@@ -133,7 +133,7 @@ module _ (v : List Link) (t : Link) where
           )
       goes false e =
           let same : written 0 (cell cs 0).0 ≡ begun log = rw e (ap (λ (c : Cell). c.0) kept.word) in
-          let after : IsKept (set cs 0 (written 0 (cell cs 0).0, true)) log = record {
+          let after : IsLogKept (set cs 0 (written 0 (cell cs 0).0, true)) log = record {
             word = word_set cs log _ kept ∙ ap (λ (y : ℕ). (y, true)) same;
             used = all_home cs _ (λ k h. home_set cs 0 _ k h) log kept.used;
           } in (
@@ -141,7 +141,7 @@ module _ (v : List Link) (t : Link) where
             [],
             None,
             tt,
-            subst (λ (ls : List Link). IsKept (set cs 0 (written 0 (cell cs 0).0, true)) ls) (sym (append-nil log)) after,
+            subst (λ (ls : List Link). IsLogKept (set cs 0 (written 0 (cell cs 0).0, true)) ls) (sym (append-nil log)) after,
             inl (refl, refl),
             rw e tt,
           )
@@ -151,7 +151,7 @@ module _ (v : List Link) (t : Link) (p : Nib) (right : p.right ≡ may_write) (e
   abbrev pub holding : View Link ℕ
   holding = (v, (p, None))
 
-  pub extend_moves : Moves IsKept shown moved 0 holding (written 1) (Extends (step 0 1 1 t) holding)
+  pub extend_moves : Moves IsLogKept shown moved 0 holding (written 1) (Extends (step 0 1 1 t) holding)
   extend_moves cs log kept pre away =
       let home = ap (λ (c : Cell). c.1) kept.word in
       let at = away right in
@@ -163,11 +163,11 @@ module _ (v : List Link) (t : Link) (p : Nib) (right : p.right ≡ may_write) (e
       let here : is_home cs'' p.key ≡ true = let long = length-set cs 0 (x, true) in let l = at.0 in ap (λ (c : Cell). c.1) (get_or-set_same cs' p.key (p.value, true) (0, false) (omega arith)) in
       let last : EndsWith log p.key = subst (λ (ls : List Link). EndsWith ls p.key) (sym all) ends in
       let number : x ≡ 1 = same_number (cell cs 0).0 ∙ (ap (λ (c : Cell). c.0) kept.word ∙ has_begun log p.key last) in
-      let after : IsKept cs'' (log ++ t ∷ []) = record {
+      let after : IsLogKept cs'' (log ++ t ∷ []) = record {
         word = get_or-set_other cs' p.key 0 (p.value, true) (0, false) other ∙ (word_set cs log x kept ∙ (ap (λ (y : ℕ). (y, true)) number ∙ ap (λ (y : ℕ). (y, true)) (sym (begun_more log t))));
         used = used_more cs'' log t p.key last (all_home cs cs'' (λ j h. home_set cs' p.key p.value j (home_set cs 0 x j h)) log kept.used) here;
       } in
-      let goes : Goes IsKept shown moved 0 holding (written 1) (Extends (step 0 1 1 t) holding) cs log = (gives, t ∷ [], None, right, after, inl (refl, refl), ap (λ (ls : List Link). ls ++ t ∷ []) all) in
+      let goes : Goes IsLogKept shown moved 0 holding (written 1) (Extends (step 0 1 1 t) holding) cs log = (gives, t ∷ [], None, right, after, inl (refl, refl), ap (λ (ls : List Link). ls ++ t ∷ []) all) in
       (home_within cs 0 home, home, goes)
 
 -- the entries of more links

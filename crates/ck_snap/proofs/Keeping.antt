@@ -11,18 +11,18 @@ use Rattle.ck_history.specs.Book.{BookView}
 use Rattle.ck_snap.specs.declared.version.Version.{Version}
 use Rattle.ck_snap.specs.declared.snapshot.Snapshot.{Snapshot}
 use Rattle.ck_snap.specs.declared.rule.EndView.{EndView}
-use Rattle.ck_snap.specs.Log.{Log, last_of, capacity, book_after}
-use Rattle.ck_snap.specs.Version.{log_of, Precedes, Follows, book_with}
+use Rattle.ck_snap.specs.Log.{Log, last_of, most_pairs, book_after}
+use Rattle.ck_snap.specs.Version.{version_log, Precedes, FollowsVersion, book_with}
 use Rattle.ck_snap.specs.Copies.{Keeps, Shows, newcomer, seeing, snapshot_of}
 use Rattle.ck_snap.proofs.Prefixes.{prefix_self, prefix_trans}
 use Rattle.ck_snap.proofs.Replying.{map_after-snoc}
 
 precedes_self : (v : Version) → Precedes (Some v) v
-precedes_self v = (refl, prefix_self (log_of v))
+precedes_self v = (refl, prefix_self (version_log v))
 
 precedes_later : (v : Option Version) (s t : Version) → Precedes v s → Precedes (Some s) t → Precedes v t
 precedes_later None s t p q = tt
-precedes_later (Some u) s t p q = (p.0 ∙ q.0, prefix_trans (log_of u) (log_of s) (log_of t) p.1 q.1)
+precedes_later (Some u) s t p q = (p.0 ∙ q.0, prefix_trans (version_log u) (version_log s) (version_log t) p.1 q.1)
 
 -- what every end of a list has seen precedes this version
 abbrev All_precede : List EndView → Version → Type 0
@@ -55,17 +55,17 @@ enters seat v x = turns_to seat v x x (precedes_self x.version) (λ p. p)
 -- a page after one more update
 book_after-append : (log : Log) (last : Option (LogEntry ℕ)) → book_with (book_after log) last ≡ book_after (log ++ last_of last)
 book_after-append log None = ap book_after (sym (append-nil log))
-book_after-append log (Some e) = let page : Map ℕ → BookView ℕ = λ l. record { most = capacity; pairs = l } in ap page (sym (map_after-snoc log e))
+book_after-append log (Some e) = let page : Map ℕ → BookView ℕ = λ l. record { most = most_pairs; pairs = l } in ap page (sym (map_after-snoc log e))
 
 -- a publish of a version that follows the one that was shown
-pub publishes : (seat : ℕ) (v : EndView) (shown : Snapshot) (next : Version) → Follows shown.version next
+pub publishes : (seat : ℕ) (v : EndView) (shown : Snapshot) (next : Version) → FollowsVersion shown.version next
     → TurnsAt (λ x views. Keeps x views) seat v shown (record { book = book_with shown.book next.last; version = next }) (λ v x y w. Shows v y w)
 publishes seat v shown next follows =
     let up : Precedes (Some shown.version) next = (sym follows.0, (last_of next.last, ap (λ l. l ++ last_of next.last) (sym follows.1))) in
     let y : Snapshot = record { book = book_with shown.book next.last; version = next } in
     turns_to seat v shown y up (λ (fold : shown ≡ snapshot_of shown.version).
-    let book : book_with shown.book next.last ≡ book_after (log_of next) =
-    ap (λ (s : Snapshot). book_with s.book next.last) fold ∙ (book_after-append (log_of shown.version) next.last ∙ ap (λ l. book_after (l ++ last_of next.last)) (sym follows.1)) in
+    let book : book_with shown.book next.last ≡ book_after (version_log next) =
+    ap (λ (s : Snapshot). book_with s.book next.last) fold ∙ (book_after-append (version_log shown.version) next.last ∙ ap (λ l. book_after (l ++ last_of next.last)) (sym follows.1)) in
     let with_book : BookView ℕ → Snapshot = λ b. record { book = b; version = next } in
     ap with_book book)
 

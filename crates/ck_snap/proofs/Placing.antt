@@ -14,25 +14,25 @@ use Rattle.ck_history.specs.Map.{find, after_from, answer_after}
 use Rattle.ck_history.specs.Places.{ArePlacedAt}
 use Rattle.ck_history.proofs.Placing as places
 use Rattle.ck_history.proofs.Placing.{answer_after-append}
-use Rattle.ck_snap.specs.Log.{Log, capacity, updates, map_after}
-use Rattle.ck_snap.specs.Places.{Writing, Reading, log_in, answers_at, ArePlacedIn}
+use Rattle.ck_snap.specs.Log.{Log, most_pairs, updates, map_after}
+use Rattle.ck_snap.specs.Places.{Writing, Reading, log_of_events, answers_at, ArePlacedIn}
 use Rattle.ck_snap.proofs.Prefixes.{prefix_length}
 
 abbrev answers : Log → ℕ → ℕ → Option ℕ
-answers log = answer_after nat_cmp capacity (updates log)
+answers log = answer_after nat_cmp most_pairs (updates log)
 
 -- after fewer updates the answers are those of each longer log
 answers_later : (log more : Log) → IsPrefix log more → (p k : ℕ) → p ≤ length log → answers more p k ≡ answers log p k
 answers_later log more pre p k le =
     let whole : updates more ≡ updates log ++ updates pre.0 = ap updates (sym pre.1) ∙ map-append (λ (e : LogEntry ℕ). e.update) log pre.0 in
     let long = length-map log (λ (e : LogEntry ℕ). e.update) in
-    rw whole (answer_after-append nat_cmp capacity (updates log) (updates pre.0) p k (omega arith))
+    rw whole (answer_after-append nat_cmp most_pairs (updates log) (updates pre.0) p k (omega arith))
 
 -- the answer after all updates
 answers_last : (log : Log) (k : ℕ) → answers log (length log) k ≡ find nat_cmp (map_after log) k
 answers_last log k =
     let all : take (length log) (updates log) ≡ updates log = rw (← length-map log (λ (e : LogEntry ℕ). e.update)) (take-length (updates log)) in
-    ap (λ (us : List (Update ℕ)). find nat_cmp (after_from nat_cmp capacity [] us) k) all
+    ap (λ (us : List (Update ℕ)). find nat_cmp (after_from nat_cmp most_pairs [] us) k) all
 
 module _ (log more : Log) (pre : IsPrefix log more) (es : Reading) (ps : List ℕ) (h : ArePlacedIn log es ps) where
   pub placed_later : ArePlacedIn more es ps
@@ -47,10 +47,10 @@ module _ (log more : Log) (pre : IsPrefix log more) (es : Reading) (ps : List �
   placed_reached n result le = places.placed_reached (length more) (answers more) 0 es ps n result placed_later le
 
 -- the log of two lists of events
-pub log_in-append : (es fs : Writing) → log_in (es ++ fs) ≡ log_in es ++ log_in fs
-log_in-append [] fs = refl
-log_in-append (Updated u r ∷ es) fs = ap (λ (l : Log). record { update = u; reply = r } ∷ l) (log_in-append es fs)
-log_in-append (Told reader k ∷ es) fs = log_in-append es fs
+pub log_of_events-append : (es fs : Writing) → log_of_events (es ++ fs) ≡ log_of_events es ++ log_of_events fs
+log_of_events-append [] fs = refl
+log_of_events-append (Updated u r ∷ es) fs = ap (λ (l : Log). record { update = u; reply = r } ∷ l) (log_of_events-append es fs)
+log_of_events-append (Told reader k ∷ es) fs = log_of_events-append es fs
 
 module _ (count : ℕ) (gives : ℕ → ℕ → Option ℕ) where
   answered_snoc : (least : ℕ) (es : Reading) (ps : List ℕ) (k : ℕ) (a : Option ℕ) (p : ℕ) → ArePlacedAt count gives least es ps → answers_at (es ++ Answered k a ∷ []) (ps ++ p ∷ []) ≡ answers_at es ps ++ record { key = k; answer = a; place = p } ∷ []

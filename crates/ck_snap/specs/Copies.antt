@@ -7,11 +7,11 @@ use Rattle.ck_snap.specs.declared.version.Version.{Version}
 use Rattle.ck_snap.specs.declared.snapshot.Snapshot.{Snapshot}
 use Rattle.ck_snap.specs.declared.rule.EndView.{EndView}
 use Rattle.ck_snap.specs.Log.{Log, book_after}
-use Rattle.ck_snap.specs.Version.{log_of, Precedes}
+use Rattle.ck_snap.specs.Version.{version_log, Precedes}
 
 -- the map of a version
 abbrev pub snapshot_of : Version → Snapshot
-snapshot_of v = record { book = book_after (log_of v); version = v }
+snapshot_of v = record { book = book_after (version_log v); version = v }
 
 abbrev pub newcomer : EndView
 newcomer = record { enters = 0; seen = None }

@@ -39,7 +39,7 @@ begun [] = 0
 begun (l ∷ ls) = 1
 
 -- the first cell is the shared word
-pub record IsKept (cells : List Cell) (links : List Link) : Type 0 where
+pub record IsLogKept (cells : List Cell) (links : List Link) : Type 0 where
   pub word : cell cells 0 ≡ (begun links, true)
   pub used : AreHome cells links
 
@@ -47,19 +47,19 @@ abbrev pub first_word : Book → Named
 first_word b = record { tracked = true; key = 0; book = b }
 
 -- a cell was added, with the pen to make its word
-abbrev pub Makes : Step Link → View Link ℕ → ℕ → View Link ℕ → Type 0
-Makes s v found w = w.1.0.right ≡ may_make
+abbrev pub MakesCell : Step Link → View Link ℕ → ℕ → View Link ℕ → Type 0
+MakesCell s v found w = w.1.0.right ≡ may_make
 
 -- where the log hadn't begun, it has now, by this link
-abbrev pub Begins : Step Link → View Link ℕ → ℕ → View Link ℕ → Type 0
-Begins s v found w = MatchBool (found == 0) (w.0 ≡ s.ask ∷ []) (Unit {0})
+abbrev pub BeginsLog : Step Link → View Link ℕ → ℕ → View Link ℕ → Type 0
+BeginsLog s v found w = MatchBool (found == 0) (w.0 ≡ s.ask ∷ []) (Unit {0})
 
 -- the link was added to all that had been seen, and nothing else
 abbrev pub Extends : Step Link → View Link ℕ → ℕ → View Link ℕ → Type 0
 Extends s v found w = w.0 ≡ v.0 ++ s.ask ∷ []
 
 -- what is known of the end of a log: how many entries it has, its links, and the pen that the last one names
-pub record IsEnd (count : ℕ) (book : Book) (links : List Link) (pen : Book) (nib : Nib) : Type 0 where
+pub record IsLogEnd (count : ℕ) (book : Book) (links : List Link) (pen : Book) (nib : Nib) : Type 0 where
   pub count_is : count ≡ length (entries links)
   pub small : count ≤ 2 ^ 62
   pub same : pen ≡ book

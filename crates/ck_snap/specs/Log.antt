@@ -19,17 +19,17 @@ abbrev pub updates : Log → List (Update ℕ)
 updates log = map (λ e. e.update) log
 
 -- the most pairs
-abbrev pub capacity : ℕ
-capacity = 65536
+abbrev pub most_pairs : ℕ
+most_pairs = 65536
 
 -- the map after all updates of the log
 abbrev pub map_after : Log → Map ℕ
-map_after log = after_from nat_cmp capacity [] (updates log)
+map_after log = after_from nat_cmp most_pairs [] (updates log)
 
 -- each reply is the map's
 abbrev pub AreReplies : Log → Type 0
-AreReplies log = map (λ e. e.reply) log ≡ replies nat_cmp capacity (updates log)
+AreReplies log = map (λ e. e.reply) log ≡ replies nat_cmp most_pairs (updates log)
 
 -- the map after all updates, as a book
 abbrev pub book_after : Log → BookView ℕ
-book_after log = record { most = capacity; pairs = map_after log }
+book_after log = record { most = most_pairs; pairs = map_after log }

@@ -10,7 +10,7 @@ use Rattle.ck_history.specs.declared.update.Update.{Update}
 use Rattle.ck_history.specs.declared.update.Reply.{Reply}
 use Rattle.ck_history.specs.Map.{answer_after}
 use Rattle.ck_history.specs.Places.{ArePlacedAt}
-use Rattle.ck_snap.specs.Log.{Log, capacity, updates}
+use Rattle.ck_snap.specs.Log.{Log, most_pairs, updates}
 
 -- what was done with the writer, and with a pass
 abbrev pub Writing : Type 0
@@ -20,10 +20,10 @@ abbrev pub Reading : Type 0
 Reading = List (ReaderEvent ℕ (Option ℕ))
 
 -- the answered updates among events, in order
-abbrev pub log_in : Writing → Log
-log_in [] = []
-log_in (Updated u r ∷ es) = record { update = u; reply = r } ∷ log_in es
-log_in (Told reader k ∷ es) = log_in es
+abbrev pub log_of_events : Writing → Log
+log_of_events [] = []
+log_of_events (Updated u r ∷ es) = record { update = u; reply = r } ∷ log_of_events es
+log_of_events (Told reader k ∷ es) = log_of_events es
 
 -- the answered look-ups among events, in order, with their places
 abbrev pub answers_at : Reading → List ℕ → List (Placed ℕ)
@@ -35,4 +35,4 @@ answers_at (Reached n result ∷ es) ps = answers_at es ps
 -- The answers are those of the map after as many updates of the log as their places say. Places don't fall, none is below what a `reached`
 -- before it told, and what was told is at most the length of the log
 abbrev pub ArePlacedIn : Log → Reading → List ℕ → Type 0
-ArePlacedIn log es ps = ArePlacedAt (length log) (answer_after nat_cmp capacity (updates log)) 0 es ps
+ArePlacedIn log es ps = ArePlacedAt (length log) (answer_after nat_cmp most_pairs (updates log)) 0 es ps

@@ -2,11 +2,11 @@
 use Rattle.std.specs.Prelude.{◌≡◌, Some}
 use Rattle.left_right.specs.Sides.{view}
 use Rattle.ck_snap.specs.declared.subscriber.Subscriber.TheInside.{Inside}
-use Rattle.ck_snap.specs.Version.{log_of, book_of}
+use Rattle.ck_snap.specs.Version.{version_log, version_book}
 use Rattle.ck_snap.specs.Copies.{Known}
 
-abbrev pub known_by : Inside → Known
-known_by s = record { book = book_of s.version; log = log_of s.version; enters = (view s.reader.place).enters }
+abbrev pub known_to : Inside → Known
+known_to s = record { book = version_book s.version; log = version_log s.version; enters = (view s.reader.place).enters }
 
 -- the rule knows the version that was seen
 abbrev pub IsSubscriber : Inside → Type 0

@@ -11,8 +11,8 @@ use Rattle.ck_history.specs.declared.update.Update.{Update}
 use Rattle.ck_history.specs.declared.update.Reply.{Reply}
 use Rattle.ck_history.specs.Map.{find, step}
 use Rattle.ck_history.specs.declared.event.WriterEvent.TheVariants.{Updated}
-use Rattle.ck_snap.specs.Log.{Log, capacity, map_after, AreReplies}
-use Rattle.ck_snap.specs.Places.{Writing, Reading, log_in, answers_at, ArePlacedIn}
+use Rattle.ck_snap.specs.Log.{Log, most_pairs, map_after, AreReplies}
+use Rattle.ck_snap.specs.Places.{Writing, Reading, log_of_events, answers_at, ArePlacedIn}
 
 -- which dictionary something belongs to: that of this log and these journals
 pub record Origin : Type 0 where
@@ -44,7 +44,7 @@ pub record PassView : Type 0 where
 
 -- the writer's answered updates
 abbrev pub log : WriterView → Log
-log w = log_in w.done
+log w = log_of_events w.done
 
 -- the pass's answered look-ups
 abbrev pub mine : PassView → List (Placed ℕ)
@@ -65,7 +65,7 @@ pub record IsCurrent (w : WriterView) : Type 0 where
 
 -- the writer has made this update and was given the map's reply, and nothing else was done with it
 pub record HasUpdated (old : WriterView) (u : Update ℕ) (new : WriterView) (r : Reply) : Type 0 where
-  pub reply : r ≡ (step nat_cmp capacity (map_after (log old)) u).1
+  pub reply : r ≡ (step nat_cmp most_pairs (map_after (log old)) u).1
   pub appended : log new ≡ log old ++ record { update = u; reply = r } ∷ []
   pub writer : new ≡ record old { done = old.done ++ Updated u r ∷ []; published = log new; calls = old.calls + 1 }
   pub current : IsCurrent new
@@ -88,9 +88,9 @@ abbrev pub fresh_pass : Dictionary → ℕ → PassView
 fresh_pass d n = record { origin = d.origin; number = n; seen = []; done = []; places = []; enters = 0; calls = 0 }
 
 -- such passes, numbered from n in order
-abbrev pub AreFresh : Dictionary → ℕ → List PassView → Type 0
-AreFresh d n [] = Unit {0}
-AreFresh d n (p ∷ ps) = (p ≡ fresh_pass d n) × AreFresh d (n + 1) ps
+abbrev pub AreFreshSnapPasses : Dictionary → ℕ → List PassView → Type 0
+AreFreshSnapPasses d n [] = Unit {0}
+AreFreshSnapPasses d n (p ∷ ps) = (p ≡ fresh_pass d n) × AreFreshSnapPasses d (n + 1) ps
 
 -- Both calls are counted. The pass has seen the writer's whole log, and what it had seen before is a prefix of that
 pub record IsTied (w : WriterView) (p : PassView) (w' : WriterView) (p' : PassView) : Type 0 where

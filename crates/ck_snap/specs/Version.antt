@@ -9,20 +9,20 @@ use Rattle.ck_history.specs.Book.{BookView}
 use Rattle.ck_snap.specs.declared.version.Version.{Version}
 use Rattle.ck_snap.specs.Log.{Log, last_of}
 
-abbrev pub log_of : Version → Log
-log_of v = v.prefix.log ++ last_of v.last
+abbrev pub version_log : Version → Log
+version_log v = v.prefix.log ++ last_of v.last
 
-abbrev pub book_of : Version → Book
-book_of v = v.prefix.book
+abbrev pub version_book : Version → Book
+version_book v = v.prefix.book
 
 -- of one log, the second version has all that the first has
 abbrev pub Precedes : Option Version → Version → Type 0
 Precedes None next = Unit {0}
-Precedes (Some v) next = (book_of v ≡ book_of next) × IsPrefix (log_of v) (log_of next)
+Precedes (Some v) next = (version_book v ≡ version_book next) × IsPrefix (version_log v) (version_log next)
 
 -- its prefix is all that the other version has
-abbrev pub Follows : Version → Version → Type 0
-Follows v next = (next.prefix.book ≡ book_of v) × (next.prefix.log ≡ log_of v)
+abbrev pub FollowsVersion : Version → Version → Type 0
+FollowsVersion v next = (next.prefix.book ≡ version_book v) × (next.prefix.log ≡ version_log v)
 
 -- a map after one more update, if there is one
 abbrev pub book_with : BookView ℕ → Option (LogEntry ℕ) → BookView ℕ

@@ -23,9 +23,9 @@ pub struct Grows;
 impl Rule<Link, u64> for Grows {
     ghost use Rattle.std.specs.Prelude.{[]};
     ghost use base.Fml.{ftrue};
-    ghost use Rattle.ck_snap.specs.Growing.{IsKept};
+    ghost use Rattle.ck_snap.specs.Growing.{IsLogKept};
 
-    ghost holds = { λ cells links. IsKept cells links };
+    ghost holds = { λ cells links. IsLogKept cells links };
 
     ghost first = { [] };
 
@@ -51,18 +51,18 @@ impl Gain<Link, u64> for Nothing {
 struct Make;
 
 impl Play<Link, u64> for Make {
-    ghost use Rattle.ck_snap.specs.Growing.{Makes};
+    ghost use Rattle.ck_snap.specs.Growing.{MakesCell};
 
-    ghost then = { Makes };
+    ghost then = { MakesCell };
 }
 
 /// The step that adds the first link.
 struct Begin;
 
 impl Play<Link, u64> for Begin {
-    ghost use Rattle.ck_snap.specs.Growing.{Begins};
+    ghost use Rattle.ck_snap.specs.Growing.{BeginsLog};
 
-    ghost then = { Begins };
+    ghost then = { BeginsLog };
 }
 
 /// The step that adds each further link.
@@ -148,13 +148,13 @@ pub struct LogEnd {
 }
 
 impl Model for LogEnd {
-    ghost use Rattle.ck_snap.specs.Growing.{LogPart, entries, IsEnd};
+    ghost use Rattle.ck_snap.specs.Growing.{LogPart, entries, IsLogEnd};
 
     ghost Value = { LogPart };
 
     ghost view = { λ e. record { book = e.seen.book; log = entries e.seen.log } };
 
-    ghost invariant = { λ e. IsEnd e.count e.seen.book e.seen.log e.pen.book e.pen.nib };
+    ghost invariant = { λ e. IsLogEnd e.count e.seen.book e.seen.log e.pen.book e.pen.nib };
 }
 
 impl LogWord {
@@ -185,7 +185,7 @@ impl LogWord {
         pen
     }
 
-    /// Begins the log. Only who has made the word can, so the first exchange does.
+    /// BeginsLog the log. Only who has made the word can, so the first exchange does.
     fn begin<R: Wait>(&self, rt: &R, seen: &Seen<Link, u64, Grows>) -> LogEnd
         requires { seen.now.book ≡ self.now }
         ensures { result ≡ record { book = self.now; log = [] } }
@@ -217,6 +217,7 @@ impl LogWord {
 }
 
 impl Prefix {
+    /// A copy of it. Only proofs see what is copied, so it costs nothing but a number.
     pub fn again(&self) -> Prefix
         ensures { result ≡ self.now }
     {

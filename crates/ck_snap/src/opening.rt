@@ -1,6 +1,6 @@
 //! How a dictionary begins.
 ghost use Rattle.std.specs.Prelude.{◌≡◌, ◌+◌, ◌≤◌, [], IfOk, vec_len};
-ghost use Rattle.ck_snap.specs.Tokens.{fresh_writer, fresh_pass, AreFresh};
+ghost use Rattle.ck_snap.specs.Tokens.{fresh_writer, fresh_pass, AreFreshSnapPasses};
 ghost use Rattle.ck_snap.specs.Journal.{JournalView, no_events};
 
 use crate::journal::{Journal, Journals};
@@ -20,7 +20,7 @@ impl Snap {
         requires { (1 ≤ readers) × (readers ≤ 64) }
         ensures readers { IfOk result (λ r. r.0.readers ≡ readers) }
         ensures writer { IfOk result (λ r. r.1 ≡ fresh_writer r.0) }
-        ensures passes { IfOk result (λ r. (vec_len r.2 ≡ readers) × AreFresh r.0 0 r.2.items) }
+        ensures passes { IfOk result (λ r. (vec_len r.2 ≡ readers) × AreFreshSnapPasses r.0 0 r.2.items) }
     {
         let (journals, mut journal) = Journals::new(alloc)?;
         let (mut publisher, log) = Publisher::new(rt, alloc, readers)?;
@@ -55,7 +55,7 @@ impl Snap {
         requires publisher { publisher.old ≡ record { book = self.now.origin.log; log = [] } }
         requires journal { journal.old ≡ record { journals = self.now.origin.journals; events = no_events } }
         ensures same { (publisher.new ≡ publisher.old) × (journal.new ≡ journal.old) }
-        ensures passes { IfOk result (λ v. (vec_len v ≡ self.now.readers) × AreFresh self.now 0 v.items) }
+        ensures passes { IfOk result (λ v. (vec_len v ≡ self.now.readers) × AreFreshSnapPasses self.now 0 v.items) }
     {
         let mut passes = Vec::new(alloc);
         for number in 0..self.readers {

@@ -4,8 +4,8 @@ ghost use Rattle.std.specs.Ordering.{nat_cmp};
 ghost use Rattle.left_right.specs.Sides.{view};
 ghost use Rattle.ck_history.specs.Map.{step};
 ghost use Rattle.ck_snap.specs.Growing.{LogPart};
-ghost use Rattle.ck_snap.specs.Log.{capacity, map_after, last_of};
-ghost use Rattle.ck_snap.specs.Version.{log_of, book_of, Follows};
+ghost use Rattle.ck_snap.specs.Log.{most_pairs, map_after, last_of};
+ghost use Rattle.ck_snap.specs.Version.{version_log, version_book, FollowsVersion};
 ghost use Rattle.ck_snap.specs.Copies.{snapshot_of, Known};
 
 use crate::log::{LogEnd, LogWord};
@@ -23,6 +23,7 @@ use std::sync::Wait;
 /// The most pairs of a dictionary.
 const CAPACITY: u64 = 65_536;
 
+/// The writer's end of the two copies, as `left_right` has it.
 pub type CopyWriter = Writer<Snapshot, Version, EndView, Folds>;
 
 /// Publishes version after version. Contracts see what is published. It isn't `Drop`: end it by `finish`.
@@ -48,7 +49,7 @@ impl Model for Publisher {
 /// Shows the one version that is pending. It waits for the readers of the copy from before.
 fn publish_in<R: Wait>(rt: &R, writer: CopyWriter, next: &Version) -> (CopyWriter, ())
     requires pending { drop writer.behind writer.log.items ≡ next.now ∷ [] }
-    requires follows { Follows writer.desk.shown.value.version next.now }
+    requires follows { FollowsVersion writer.desk.shown.value.version next.now }
     ensures shown { result.0.desk.shown.value ≡ snapshot_of next.now }
     ensures knows { (view result.0.desk.place).seen ≡ Some next.now }
     ensures settled { drop result.0.behind result.0.log.items ≡ [] }
@@ -61,7 +62,7 @@ fn publish_in<R: Wait>(rt: &R, writer: CopyWriter, next: &Version) -> (CopyWrite
 
 fn publish_through<R: Wait>(rt: &R, writer: &mut CopyWriter, next: &Version)
     requires pending { drop writer.old.behind writer.old.log.items ≡ next.now ∷ [] }
-    requires follows { Follows writer.old.desk.shown.value.version next.now }
+    requires follows { FollowsVersion writer.old.desk.shown.value.version next.now }
     ensures shown { writer.new.desk.shown.value ≡ snapshot_of next.now }
     ensures knows { (view writer.new.desk.place).seen ≡ Some next.now }
     ensures settled { drop writer.new.behind writer.new.log.items ≡ [] }
@@ -71,7 +72,7 @@ fn publish_through<R: Wait>(rt: &R, writer: &mut CopyWriter, next: &Version)
 
 /// A copy with no pair.
 fn empty(alloc: Global, version: &Version) -> Result<Snapshot, AllocError>
-    ensures { IfOk result (λ s. s ≡ record { book = record { most = capacity; pairs = [] }; version = version.now }) }
+    ensures { IfOk result (λ s. s ≡ record { book = record { most = most_pairs; pairs = [] }; version = version.now }) }
 {
     Ok(Snapshot {
         book: FixedBook::new(alloc, CAPACITY)?,
@@ -131,7 +132,7 @@ impl Publisher {
 
     /// What is published, or the same version settled.
     pub fn version(&self) -> &Version
-        ensures { (book_of result.now ≡ self.now.book) × (log_of result.now ≡ self.now.log) }
+        ensures { (version_book result.now ≡ self.now.book) × (version_log result.now ≡ self.now.log) }
     {
         &self.version
     }
@@ -145,7 +146,7 @@ impl Publisher {
     ) -> Result<Reply, AllocError>
         requires book { self.old.book ≡ word.now }
         requires room { length self.old.log ≤ 2 ^ 62 }
-        ensures reply { IfOk result (λ r. r ≡ (step nat_cmp capacity (map_after self.old.log) update.now).1) }
+        ensures reply { IfOk result (λ r. r ≡ (step nat_cmp most_pairs (map_after self.old.log) update.now).1) }
         ensures ok { IfOk result (λ r. self.new ≡ record self.old { log = self.old.log ++ record { update = update.now; reply = r } ∷ [] }) }
         ensures err { OnErr result (self.new ≡ self.old) }
     {

@@ -10,6 +10,7 @@ pub struct EndView {
     pub seen: Option<Version>,
 }
 
+/// The rule: the published copy is the map after its version's updates, and what each end has seen is a prefix of these.
 pub struct Folds;
 
 impl Protocol<Snapshot, EndView> for Folds {

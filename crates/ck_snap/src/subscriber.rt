@@ -5,7 +5,7 @@ ghost use mathlib.Core.List.{IsPrefix};
 ghost use Rattle.left_right.specs.Sides.{view};
 ghost use Rattle.ck_history.specs.Map.{find};
 ghost use Rattle.ck_snap.specs.Log.{map_after};
-ghost use Rattle.ck_snap.specs.Version.{log_of, book_of, Precedes};
+ghost use Rattle.ck_snap.specs.Version.{version_log, version_book, Precedes};
 ghost use Rattle.ck_snap.specs.Copies.{Known, Shows, seeing};
 
 use crate::rule::{EndView, Folds, Sees};
@@ -18,8 +18,10 @@ use left_right::reader::{Reader, Reading};
 use std::marker::Model;
 use std::sync::Wait;
 
+/// A reader's end of the two copies, between two enters.
 pub type CopyReader = Reader<Snapshot, EndView, Folds>;
 
+/// A reader's end within an enter: it lends the copy that was published then, and the writer leaves that copy as it is until the end leaves.
 pub type CopyReading = Reading<Snapshot, EndView, Folds>;
 
 /// Sees version after version.
@@ -32,11 +34,11 @@ pub struct Subscriber {
 
 impl Model for Subscriber {
     ghost use Rattle.ck_snap.specs.Copies.{Known};
-    ghost use Rattle.ck_snap.specs.Subscribing.{known_by, IsSubscriber};
+    ghost use Rattle.ck_snap.specs.Subscribing.{known_to, IsSubscriber};
 
     ghost Value = { Known };
 
-    ghost view = { known_by };
+    ghost view = { known_to };
 
     ghost invariant = { IsSubscriber };
 }
@@ -71,7 +73,7 @@ fn see_in<R: Wait>(rt: &R, reader: CopyReader) -> (CopyReader, Version)
 fn look_in<R: Wait>(rt: &R, reader: CopyReader, key: Key) -> (CopyReader, (Version, Option<u64>))
     ensures seen { view result.0.place ≡ seeing (view reader.place) result.1.0 }
     ensures later { Precedes (view reader.place).seen result.1.0 }
-    ensures found { result.1.1 ≡ find nat_cmp (map_after (log_of result.1.0)) key }
+    ensures found { result.1.1 ≡ find nat_cmp (map_after (version_log result.1.0)) key }
 {
     let reading = enter_in(rt, reader);
     let version = reading.get().version.again();
@@ -89,7 +91,7 @@ fn see_through<R: Wait>(rt: &R, reader: &mut CopyReader) -> Version
 fn look_through<R: Wait>(rt: &R, reader: &mut CopyReader, key: Key) -> (Version, Option<u64>)
     ensures seen { view reader.new.place ≡ seeing (view reader.old.place) result.0 }
     ensures later { Precedes (view reader.old.place).seen result.0 }
-    ensures found { result.1 ≡ find nat_cmp (map_after (log_of result.0)) key }
+    ensures found { result.1 ≡ find nat_cmp (map_after (version_log result.0)) key }
 {
     replace_with(reader, rt, |reader, rt| look_in(rt, reader, key))
 }
@@ -98,14 +100,14 @@ impl Subscriber {
     /// The reader, which has seen this version.
     pub fn over(reader: CopyReader, version: Version) -> Subscriber
         requires { (view reader.place).seen ≡ Some version }
-        ensures { result ≡ record { book = book_of version; log = log_of version; enters = (view reader.place).enters } }
+        ensures { result ≡ record { book = version_book version; log = version_log version; enters = (view reader.place).enters } }
     {
         Subscriber { reader, version }
     }
 
     /// What was seen last.
     pub fn version(&self) -> &Version
-        ensures { (book_of result.now ≡ self.now.book) × (log_of result.now ≡ self.now.log) }
+        ensures { (version_book result.now ≡ self.now.book) × (version_log result.now ≡ self.now.log) }
     {
         &self.version
     }
@@ -131,9 +133,9 @@ impl Subscriber {
 
     /// Enters until it sees this version.
     pub fn catch_up<R: Wait>(&mut self, rt: &R, version: &Version)
-        requires { self.old.book ≡ book_of version.now }
-        ensures end { self.new ≡ record self.old { log = log_of version.now; enters = self.new.enters } }
-        ensures later { IsPrefix self.old.log (log_of version.now) }
+        requires { self.old.book ≡ version_book version.now }
+        ensures end { self.new ≡ record self.old { log = version_log version.now; enters = self.new.enters } }
+        ensures later { IsPrefix self.old.log (version_log version.now) }
         ensures enters { self.old.enters < self.new.enters }
     {
         let backoff = Backoff::new();

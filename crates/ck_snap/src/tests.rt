@@ -1,6 +1,6 @@
 ghost use Rattle.std.specs.Prelude.{◌≡◌, ◌+◌, ◌<◌, ◌≤◌, ◌^◌, vec_len};
 ghost use Rattle.std.specs.Thread.{IsSync};
-ghost use Rattle.ck_snap.specs.Tokens.{IsWriterOf, IsPassOf, AreFresh, fresh_pass, fresh_writer};
+ghost use Rattle.ck_snap.specs.Tokens.{IsWriterOf, IsPassOf, AreFreshSnapPasses, fresh_pass, fresh_writer};
 
 use crate::{Snap, SnapPass, SnapWriter};
 use ck_history::{Key, Look, Reply};
@@ -18,7 +18,7 @@ fn key(number: u64) -> Key
 
 // The only pass.
 fn one(snap: &Snap, mut passes: Vec<SnapPass>) -> SnapPass
-    requires fresh { AreFresh snap.now 0 passes.items }
+    requires fresh { AreFreshSnapPasses snap.now 0 passes.items }
     requires one { vec_len passes ≡ 1 }
     ensures { result ≡ fresh_pass snap.now 0 }
 {
@@ -28,7 +28,7 @@ fn one(snap: &Snap, mut passes: Vec<SnapPass>) -> SnapPass
 
 // Both passes.
 fn both(snap: &Snap, mut passes: Vec<SnapPass>) -> (SnapPass, SnapPass)
-    requires fresh { AreFresh snap.now 0 passes.items }
+    requires fresh { AreFreshSnapPasses snap.now 0 passes.items }
     requires two { vec_len passes ≡ 2 }
     ensures first { result.0 ≡ fresh_pass snap.now 0 }
     ensures second { result.1 ≡ fresh_pass snap.now 1 }

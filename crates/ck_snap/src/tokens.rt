@@ -30,13 +30,13 @@ pub struct SnapWriter {
 
 impl Model for SnapWriter {
     ghost use Rattle.ck_snap.specs.Tokens.{WriterView};
-    ghost use Rattle.ck_snap.specs.Ends.{IsWriter};
+    ghost use Rattle.ck_snap.specs.Ends.{IsSnapWriter};
 
     ghost Value = { WriterView };
 
     ghost view = { λ w. record { origin = record { log = w.publisher.book; journals = w.journal.journals }; done = w.journal.events.written; published = w.publisher.log; calls = w.calls } };
 
-    ghost invariant = { λ w. IsWriter w };
+    ghost invariant = { λ w. IsSnapWriter w };
 }
 
 /// A token that looks keys up, for one reader.
@@ -50,11 +50,11 @@ pub struct SnapPass {
 
 impl Model for SnapPass {
     ghost use Rattle.ck_snap.specs.Tokens.{PassView};
-    ghost use Rattle.ck_snap.specs.Ends.{IsPass};
+    ghost use Rattle.ck_snap.specs.Ends.{IsSnapPass};
 
     ghost Value = { PassView };
 
     ghost view = { λ p. record { origin = record { log = p.subscriber.book; journals = p.journal.journals }; number = p.number; seen = p.subscriber.log; done = p.journal.events.read; places = p.journal.events.places; enters = p.subscriber.enters; calls = p.calls } };
 
-    ghost invariant = { λ p. IsPass p };
+    ghost invariant = { λ p. IsSnapPass p };
 }

@@ -1,6 +1,6 @@
 //! Which version of the map a copy is.
 ghost use Rattle.std.specs.Prelude.{◌≡◌, ◌≤◌, ◌^◌, length, ◌↔◌, IsTrue, None};
-ghost use Rattle.ck_snap.specs.Version.{log_of, book_of};
+ghost use Rattle.ck_snap.specs.Version.{version_log, version_book};
 
 use crate::log::{LogEnd, LogWord, Prefix};
 use ck_history::{Key, LogEntry};
@@ -14,6 +14,7 @@ pub struct Version {
 }
 
 impl Version {
+    /// A copy of it.
     pub fn again(&self) -> Version
         ensures { result ≡ self.now }
     {
@@ -25,7 +26,7 @@ impl Version {
 
     /// How many updates it comes from.
     pub fn count(&self) -> u64
-        ensures { result ≡ length (log_of self.now) }
+        ensures { result ≡ length (version_log self.now) }
     {
         match self.last {
             Some(_) => self.prefix.count() + 1,
@@ -36,9 +37,9 @@ impl Version {
     /// The same version, with its last update in the log.
     pub fn settle(&mut self, word: &LogWord, end: &mut LogEnd)
         requires end { end.old ≡ self.old.prefix }
-        requires book { book_of self.old ≡ word.now }
-        requires room { length (log_of self.old) ≤ 2 ^ 62 }
-        ensures same { (book_of self.new ≡ book_of self.old) × (log_of self.new ≡ log_of self.old) }
+        requires book { version_book self.old ≡ word.now }
+        requires room { length (version_log self.old) ≤ 2 ^ 62 }
+        ensures same { (version_book self.new ≡ version_book self.old) × (version_log self.new ≡ version_log self.old) }
         ensures settled { self.new.last ≡ None }
         ensures end { end.new ≡ self.new.prefix }
     {
@@ -51,9 +52,9 @@ impl Version {
 
     /// Whether both are in the log whole, and as long. Then they come from the same updates.
     pub fn agrees(&self, other: &Version) -> bool
-        requires { book_of self.now ≡ book_of other.now }
+        requires { version_book self.now ≡ version_book other.now }
         ensures when { IsTrue result ↔ (self.now.last ≡ None) × (other.now.last ≡ None) × (length self.now.prefix.log ≡ length other.now.prefix.log) }
-        ensures same { IsTrue result → log_of self.now ≡ log_of other.now }
+        ensures same { IsTrue result → version_log self.now ≡ version_log other.now }
     {
         self.last.is_none() && other.last.is_none() && self.prefix.is_as_long(&other.prefix)
     }

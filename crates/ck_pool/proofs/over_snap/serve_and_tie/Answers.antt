@@ -1,5 +1,5 @@
 use Rattle.std.proofs.Common.{◌≡◌, ◌∙◌, ◌<◌, ◌^◌, ◌++◌, length, map, sym, ap, subst, arith}
-use Rattle.ck_snap.specs.Places.{Writing, log_in}
+use Rattle.ck_snap.specs.Places.{Writing, log_of_events}
 use Rattle.ck_snap.specs.Tokens.{WriterView, IsPassOf}
 use Rattle.ck_pool.specs.Runs.{UpdatesRan}
 use Rattle.ck_pool.specs.Snapshots.{snap_eye, AreTied}
@@ -34,7 +34,7 @@ returns-clause-answered g c =
     let same : done ≡ c.serve.new.hand.done = c.in_ok-tie_all.ensures.hand.1 in
     let all : done ≡ u.0 = same ∙ (u.1 ∙ ap (λ (w : WriterView). w.done ++ u.0) c.requires.hand) in
     let ran : UpdatesRan ups done rs = subst (λ (es : Writing). UpdatesRan ups es rs) (sym all) u.2 in
-    let tied : AreTied (log_in done) eyes = subst (λ (es : Writing). AreTied (log_in es) eyes) (sym same) c.in_ok-tie_all.ensures.tied in
+    let tied : AreTied (log_of_events done) eyes = subst (λ (es : Writing). AreTied (log_of_events es) eyes) (sym same) c.in_ok-tie_all.ensures.tied in
     record {
       replied = snap_replies c.args.snap.now ups done rs ran c.in_ok-pairs.ensures.current.replies;
       legal = snap_legal c.args.snap.now ups done rs ran c.args.passes.items (map (λ file. file.items) c.args.job.now.asks.items) eyes (map (λ file. file.items) c.in_ok-served.served.answers.items) c.requires.no_hold

@@ -1,5 +1,5 @@
 use Rattle.std.proofs.Common.{◌≡◌, ◌∙◌, ◌+◌, List, length, ap, sym, subst, arith}
-use Rattle.ck_snap.specs.Tokens.{PassView, fresh_pass, AreFresh}
+use Rattle.ck_snap.specs.Tokens.{PassView, fresh_pass, AreFreshSnapPasses}
 use Rattle.ck_snap.proofs.Numbering.{fresh_snoc}
 use Rattle.ck_snap.proofs.tokens.Snap.passes.Goals as goal
 
@@ -13,5 +13,5 @@ loop-number-preserved c =
       publisher = c.in_ok-pass.ensures.same.0 ∙ h.publisher;
       journal = c.in_ok-pass.ensures.same.1 ∙ h.journal;
       count = omega (arith, h.count, c.in_ok-push.ensures.len);
-      fresh = subst (λ (ps : List PassView). AreFresh snap 0 ps) (sym c.in_ok-push.ensures.items) (fresh_snoc snap 0 c.loop-number.passes.items c.in_ok-pass.field-0 h.fresh pass);
+      fresh = subst (λ (ps : List PassView). AreFreshSnapPasses snap 0 ps) (sym c.in_ok-push.ensures.items) (fresh_snoc snap 0 c.loop-number.passes.items c.in_ok-pass.field-0 h.fresh pass);
     }
