@@ -39,9 +39,9 @@ abbrev pub query_line : ℕ → List ℕ
 query_line key = line (query_words decimal (Ask key))
 
 -- `set KEY VALUE`, `put KEY VALUE` or `del KEY` for each update
-abbrev pub update_file : ℕ → ℕ → List ℕ
-update_file seed lines = flat_map update_line (generated_updates seed lines)
+abbrev pub update_text : ℕ → ℕ → List ℕ
+update_text seed lines = flat_map update_line (generated_updates seed lines)
 
 -- `wait LINES`, so that all updates come before all queries, and `get KEY` for each key
-abbrev pub query_file : ℕ → ℕ → List ℕ
-query_file seed lines = line (query_words {K = ℕ} decimal (Wait lines)) ++ flat_map query_line (generated_keys seed lines)
+abbrev pub query_text : ℕ → ℕ → List ℕ
+query_text seed lines = line (query_words {K = ℕ} decimal (Wait lines)) ++ flat_map query_line (generated_keys seed lines)

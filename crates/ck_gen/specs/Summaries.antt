@@ -5,24 +5,17 @@ use Rattle.ck_history.specs.declared.update.Reply.{Reply}
 use Rattle.ck_history.specs.declared.update.Reply.TheVariants.{Fresh, Was, Has, Missing}
 use Rattle.ck_probe.specs.Mixing.{mix_of, key_code_of}
 use Rattle.ck_report.specs.Text.{line}
+use Rattle.ck_gen.specs.declared.summary.ReplyKind.{ReplyKind}
+use Rattle.ck_gen.specs.declared.summary.ReplyKind.TheVariants as kinds
 use Rattle.ck_gen.specs.declared.summary.Summary.{Summary}
 
-abbrev pub is_fresh : Reply → Bool
-is_fresh Fresh = true
-is_fresh r = false
-
--- the key had a value, which was replaced or taken out
-abbrev pub is_was : Reply → Bool
-is_was (Was v) = true
-is_was r = false
-
-abbrev pub is_has : Reply → Bool
-is_has (Has v) = true
-is_has r = false
-
-abbrev pub is_missing : Reply → Bool
-is_missing Missing = true
-is_missing r = false
+-- The reply is of this kind: a pair was added, a value was replaced or taken out, a `put` found its key, or a `del` found none
+abbrev pub is_of_kind : ReplyKind → Reply → Bool
+is_of_kind kinds.Fresh Fresh = true
+is_of_kind kinds.Was (Was v) = true
+is_of_kind kinds.Has (Has v) = true
+is_of_kind kinds.Missing Missing = true
+is_of_kind _ _ = false
 
 abbrev pub is_found : Option ℕ → Bool
 is_found (Some v) = true
@@ -36,10 +29,10 @@ sum_from sum (p ∷ pairs) = sum_from (mix_of p.1 (key_code_of (p.0 % 2 ^ 64) (p
 abbrev pub summary_of : List Reply → List (Option ℕ) → List (ℕ × ℕ) → Summary
 summary_of rs answers pairs = record {
   lines = length rs;
-  fresh = length (filter is_fresh rs);
-  was = length (filter is_was rs);
-  has = length (filter is_has rs);
-  missing = length (filter is_missing rs);
+  fresh = length (filter (is_of_kind kinds.Fresh) rs);
+  was = length (filter (is_of_kind kinds.Was) rs);
+  has = length (filter (is_of_kind kinds.Has) rs);
+  missing = length (filter (is_of_kind kinds.Missing) rs);
   found = length (filter is_found answers);
   absent = length answers - length (filter is_found answers);
   keys = length pairs;

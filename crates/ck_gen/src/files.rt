@@ -1,7 +1,7 @@
 //! The generated files.
 ghost use Rattle.std.specs.Prelude.{◌≡◌, ◌≤◌, ◌++◌, ◌∷◌, [], IfOk, OnOk, codes, decimal};
 ghost use Rattle.ck_report.specs.Text.{line};
-ghost use Rattle.ck_gen.specs.Generated.{drawn_key, drawn_update, update_line, query_line, update_file, query_file};
+ghost use Rattle.ck_gen.specs.Generated.{drawn_key, drawn_update, update_line, query_line, update_text, query_text};
 
 use ck_history::{Key, Update};
 use ck_probe::mix;
@@ -16,7 +16,7 @@ const KEYS: u64 = 50_000;
 /// 50,000 and values of 32 bits.
 pub fn updates(alloc: Global, seed: u64, lines: u64) -> Result<Vec<u8>, AllocError>
     requires { lines ≤ 999999 }
-    ensures { IfOk result (λ text. text.items ≡ update_file seed lines) }
+    ensures { IfOk result (λ text. text.items ≡ update_text seed lines) }
 {
     let mut out = Vec::new(alloc);
     for i in 0..lines {
@@ -29,7 +29,7 @@ pub fn updates(alloc: Global, seed: u64, lines: u64) -> Result<Vec<u8>, AllocErr
 /// then the lines `get KEY`.
 pub fn queries(alloc: Global, seed: u64, lines: u64) -> Result<Vec<u8>, AllocError>
     requires { lines ≤ 999999 }
-    ensures { IfOk result (λ text. text.items ≡ query_file seed lines) }
+    ensures { IfOk result (λ text. text.items ≡ query_text seed lines) }
 {
     let mut out = Vec::new(alloc);
     out.extend_from_slice(b"wait ")?;

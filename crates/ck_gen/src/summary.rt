@@ -2,7 +2,7 @@
 ghost use Rattle.std.specs.Prelude.{◌≡◌, ◌≤◌, ◌++◌, ◌∷◌, [], IfOk, OnOk, decimal, length};
 ghost use Rattle.std.specs.List.{filter};
 ghost use Rattle.ck_report.specs.Text.{line};
-ghost use Rattle.ck_gen.specs.Summaries.{is_fresh, is_was, is_has, is_missing, is_found, summary_of, summary_lines, sum_from};
+ghost use Rattle.ck_gen.specs.Summaries.{is_of_kind, is_found, summary_of, summary_lines, sum_from};
 
 use crate::files::print_number;
 use ck_history::{Key, Reply};
@@ -39,10 +39,10 @@ impl Summary {
     {
         Summary {
             lines: replies.len() as u64,
-            fresh: count_fresh(replies),
-            was: count_was(replies),
-            has: count_has(replies),
-            missing: count_missing(replies),
+            fresh: count_replies(replies, ReplyKind::Fresh),
+            was: count_replies(replies, ReplyKind::Was),
+            has: count_replies(replies, ReplyKind::Has),
+            missing: count_replies(replies, ReplyKind::Missing),
             found: count_found(answers),
             absent: answers.len() as u64 - count_found(answers),
             keys: pairs.len() as u64,
@@ -51,56 +51,35 @@ impl Summary {
     }
 }
 
-// Whether an update with this reply added a pair.
-fn is_fresh(reply: &Reply) -> bool
-    ensures { result ≡ is_fresh reply.now }
-{
-    matches!(reply, Reply::Fresh)
+// The kinds of replies that a summary counts.
+#[derive(Clone, Copy)]
+enum ReplyKind {
+    Fresh,
+    Was,
+    Has,
+    Missing,
 }
 
-fn count_fresh(replies: &[Reply]) -> u64
-    ensures { result ≡ length (filter is_fresh replies.now) }
+// How many replies are of this kind.
+fn count_replies(replies: &[Reply], kind: ReplyKind) -> u64
+    ensures { result ≡ length (filter (is_of_kind kind) replies.now) }
 {
-    replies.iter().filter(|reply| is_fresh(reply)).count() as u64
+    replies
+        .iter()
+        .filter(|reply| is_of_kind(kind, reply))
+        .count() as u64
 }
 
-// Whether an update with this reply replaced a value or took a pair out.
-fn is_was(reply: &Reply) -> bool
-    ensures { result ≡ is_was reply.now }
+// Whether a reply is of this kind.
+fn is_of_kind(kind: ReplyKind, reply: &Reply) -> bool
+    ensures { result ≡ is_of_kind kind reply.now }
 {
-    matches!(reply, Reply::Was(_))
-}
-
-fn count_was(replies: &[Reply]) -> u64
-    ensures { result ≡ length (filter is_was replies.now) }
-{
-    replies.iter().filter(|reply| is_was(reply)).count() as u64
-}
-
-// Whether an update with this reply found the key.
-fn is_has(reply: &Reply) -> bool
-    ensures { result ≡ is_has reply.now }
-{
-    matches!(reply, Reply::Has(_))
-}
-
-fn count_has(replies: &[Reply]) -> u64
-    ensures { result ≡ length (filter is_has replies.now) }
-{
-    replies.iter().filter(|reply| is_has(reply)).count() as u64
-}
-
-// Whether an update with this reply found no key.
-fn is_missing(reply: &Reply) -> bool
-    ensures { result ≡ is_missing reply.now }
-{
-    matches!(reply, Reply::Missing)
-}
-
-fn count_missing(replies: &[Reply]) -> u64
-    ensures { result ≡ length (filter is_missing replies.now) }
-{
-    replies.iter().filter(|reply| is_missing(reply)).count() as u64
+    match kind {
+        ReplyKind::Fresh => matches!(reply, Reply::Fresh),
+        ReplyKind::Was => matches!(reply, Reply::Was(_)),
+        ReplyKind::Has => matches!(reply, Reply::Has(_)),
+        ReplyKind::Missing => matches!(reply, Reply::Missing),
+    }
 }
 
 // How many answers are a value.
