@@ -1,14 +1,14 @@
 -- What a key has at a place, read off the entries.
-use Rattle.std.proofs.Common.{◌≡◌, ℕ, zero, suc, ◌+◌, ◌<◌, ◌≤◌, ◌⊎◌, inl, inr, List, length, get_or, refl, ap, sym, ◌∙◌, subst, arith, add-zero, Option, None}
+use Rattle.std.proofs.Common.{◌≡◌, ℕ, zero, suc, ◌+◌, ◌<◌, ◌≤◌, inl, inr, List, ap, sym, ◌∙◌, subst, arith, add-zero, Option}
 use Rattle.std.specs.declared.cmp.Ordering.{Ordering}
 use Rattle.std.specs.declared.cmp.Ordering.TheVariants.{Equal}
-use Rattle.std.specs.List.{All, Contains}
-use Rattle.ck_judge.specs.Changes.{IsEntry, HasEntry, AreEntries}
+use Rattle.std.specs.List.{Contains}
+use Rattle.ck_judge.specs.Changes.{IsRightEntry, AreEntries}
 
 module _ {K : Type 0} (cmp : K → K → Ordering) {E : Type 0} (key_of : E → K) (place_of : E → ℕ) (value_of : E → Option ℕ) (count : ℕ) (gives : ℕ → K → Option ℕ) (es : List E) (are : AreEntries cmp key_of place_of value_of count gives es) (k : K) where
   -- a listed entry tells the truth
-  pub entry_told : (e : E) → Contains es e → IsEntry cmp key_of place_of value_of count gives e
-  entry_told e there = subst (IsEntry cmp key_of place_of value_of count gives) there.2 (are.told there.0 e there.1)
+  pub entry_told : (e : E) → Contains es e → IsRightEntry cmp key_of place_of value_of count gives e
+  entry_told e there = subst (IsRightEntry cmp key_of place_of value_of count gives) there.2 (are.told there.0 e there.1)
 
   -- where no entry of the key is between two places, it has the same at both
   pub settled : (s n : ℕ) → s + n ≤ count → ((e : E) → Contains es e → cmp k (key_of e) ≡ Equal → s < place_of e → place_of e ≤ s + n → ⊥) → gives (s + n) k ≡ gives s k

@@ -1,6 +1,5 @@
 -- What a report names at an index.
-use Rattle.std.proofs.Common.{◌≡◌, ◌≢◌, ℕ, ◌+◌, ◌<◌, ◌≤◌, ◌==◌, cond, List, [], ◌∷◌, ◌++◌, length, map, drop, take, get_or, refl, ap, sym, ◌∙◌, arith, append_assoc, Vec, Bool, true, suc, subst, Result, Ok, Err, MatchResult}
-use Rattle.std.specs.List.{slice_get}
+use Rattle.std.proofs.Common.{◌≡◌, ◌≢◌, ℕ, ◌+◌, ◌<◌, ◌≤◌, ◌==◌, cond, List, [], ◌∷◌, ◌++◌, length, map, drop, take, get_or, refl, ap, sym, ◌∙◌, arith, append_assoc, Vec, true, suc, subst, Result, Ok, Err, MatchResult}
 use Rattle.std.specs.Option.{unwrap_or, option_map}
 use Rattle.std.proofs.lemmas.List.{length-map, drop_all, map-append}
 use Rattle.std.proofs.lemmas.Option.{slice_get-map, slice_get_read}
@@ -12,8 +11,8 @@ use Rattle.ck_report.specs.declared.asked.Asked.{Asked}
 use Rattle.ck_judge.specs.declared.bounds.Bounded.{Bounded}
 use Rattle.ck_judge.specs.declared.bounds.Held.{Held}
 use Rattle.ck_judge.specs.Bounds.{query_of, hold_line, AreLimits, RiseTo}
-use Rattle.ck_judge.specs.Files.{as_lists, as_queries, first_of, past_of}
-use Rattle.ck_judge.specs.Verdict.{queries_of}
+use Rattle.ck_judge.specs.Files.{as_lists, as_queries, next_answers, later_files}
+use Rattle.ck_judge.specs.Verdict.{file_queries}
 use Rattle.ck_judge.proofs.Holding.{drop_next}
 use Rattle.ck_judge.proofs.Named.{same_itself, not_number}
 use Rattle.ck_judge.proofs.Placed.{taken_next}
@@ -29,11 +28,11 @@ module _ {K A : Type 0} (named : List (ℕ × Vec (Asked K) A)) (at : ℕ) (f : 
       let count = length-map named listed in
       drop_all at (as_lists named) (omega (arith, count))
 
-  pub first_end : length named ≤ at → [] ≡ first_of f (drop at (as_lists named))
-  first_end le = sym (ap (first_of f) (end_left le))
+  pub first_end : length named ≤ at → [] ≡ next_answers f (drop at (as_lists named))
+  first_end le = sym (ap (next_answers f) (end_left le))
 
-  pub past_end : length named ≤ at → drop at (as_lists named) ≡ past_of f (drop at (as_lists named))
-  past_end le = end_left le ∙ sym (ap (past_of f) (end_left le))
+  pub past_end : length named ≤ at → drop at (as_lists named) ≡ later_files f (drop at (as_lists named))
+  past_end le = end_left le ∙ sym (ap (later_files f) (end_left le))
 
   module _ (e : ℕ × Vec (Asked K) A) (lt : at < length named) (is : e ≡ get_or named at e) where
     pub left : drop at (as_lists named) ≡ (e.0, e.1.items) ∷ drop (at + 1) (as_lists named)
@@ -44,23 +43,23 @@ module _ {K A : Type 0} (named : List (ℕ × Vec (Asked K) A)) (at : ℕ) (f : 
     is_number : e.0 ≡ f → (e.0 == f) ≡ true
     is_number same = ap (λ n. e.0 == n) (sym same) ∙ same_itself e.0
 
-    pub first_here : e.0 ≡ f → e.1.items ≡ first_of f (drop at (as_lists named))
-    first_here same = sym (ap (first_of f) left ∙ ap (λ b. cond b e.1.items []) (is_number same))
+    pub first_here : e.0 ≡ f → e.1.items ≡ next_answers f (drop at (as_lists named))
+    first_here same = sym (ap (next_answers f) left ∙ ap (λ b. cond b e.1.items []) (is_number same))
 
-    pub first_other : e.0 ≢ f → [] ≡ first_of f (drop at (as_lists named))
-    first_other apart = sym (ap (first_of f) left ∙ ap (λ b. cond b e.1.items []) (not_number e.0 f apart))
+    pub first_other : e.0 ≢ f → [] ≡ next_answers f (drop at (as_lists named))
+    first_other apart = sym (ap (next_answers f) left ∙ ap (λ b. cond b e.1.items []) (not_number e.0 f apart))
 
-    pub past_here : e.0 ≡ f → drop (at + 1) (as_lists named) ≡ past_of f (drop at (as_lists named))
-    past_here same = sym (ap (past_of f) left ∙ ap (λ b. cond b (drop (at + 1) (as_lists named)) ((e.0, e.1.items) ∷ drop (at + 1) (as_lists named))) (is_number same))
+    pub past_here : e.0 ≡ f → drop (at + 1) (as_lists named) ≡ later_files f (drop at (as_lists named))
+    past_here same = sym (ap (later_files f) left ∙ ap (λ b. cond b (drop (at + 1) (as_lists named)) ((e.0, e.1.items) ∷ drop (at + 1) (as_lists named))) (is_number same))
 
-    pub past_other : e.0 ≢ f → drop at (as_lists named) ≡ past_of f (drop at (as_lists named))
-    past_other apart = left ∙ sym (ap (past_of f) left ∙ ap (λ b. cond b (drop (at + 1) (as_lists named)) ((e.0, e.1.items) ∷ drop (at + 1) (as_lists named))) (not_number e.0 f apart))
+    pub past_other : e.0 ≢ f → drop at (as_lists named) ≡ later_files f (drop at (as_lists named))
+    past_other apart = left ∙ sym (ap (later_files f) left ∙ ap (λ b. cond b (drop (at + 1) (as_lists named)) ((e.0, e.1.items) ∷ drop (at + 1) (as_lists named))) (not_number e.0 f apart))
 
 module _ {K A : Type 0} (files : List (Vec (Bounded K) A)) (i : ℕ) (file : Vec (Bounded K) A) (lt : i < length files) (is : file ≡ get_or files i file) where
-  pub queries_here : queries_of (i + 1) (as_queries files) ≡ map query_of file.items
+  pub queries_here : file_queries (i + 1) (as_queries files) ≡ map query_of file.items
   queries_here =
       let next : i + 1 ≡ suc i = omega arith in
-      ap (λ n. queries_of n (as_queries files)) next ∙ ap (λ o. unwrap_or o []) (slice_get-map (λ (f : Vec (Bounded K) A). map query_of f.items) files i ∙ ap (option_map (λ (f : Vec (Bounded K) A). map query_of f.items)) (slice_get_read files (length files) i file refl lt is))
+      ap (λ n. file_queries n (as_queries files)) next ∙ ap (λ o. unwrap_or o []) (slice_get-map (λ (f : Vec (Bounded K) A). map query_of f.items) files i ∙ ap (option_map (λ (f : Vec (Bounded K) A). map query_of f.items)) (slice_get_read files (length files) i file refl lt is))
 
   pub queries_taken : take (i + 1) (as_queries files) ≡ take i (as_queries files) ++ map query_of file.items ∷ []
   queries_taken = taken_next (as_queries files) i (map query_of file.items) (omega (arith, length-map files (λ (f : Vec (Bounded K) A). map query_of f.items)))

@@ -1,7 +1,6 @@
 -- The least places of a file's answers, found one after another.
-use Rattle.std.proofs.Common.{◌≡◌, ℕ, zero, suc, ◌+◌, ◌<◌, ◌≤◌, List, [], ◌∷◌, ◌++◌, length, map, refl, ap, arith, get_or, Option}
+use Rattle.std.proofs.Common.{◌≡◌, ℕ, zero, suc, ◌<◌, ◌≤◌, List, [], ◌∷◌, ◌++◌, length, map, refl, ap, arith, get_or}
 use Rattle.std.specs.declared.cmp.Ordering.{Ordering}
-use Rattle.std.specs.declared.cmp.Ordering.TheVariants.{Equal}
 use Rattle.std.specs.List.{AllZip}
 use Rattle.std.specs.List.Sorted.{IsNonDecreasing}
 use Rattle.ck_history.specs.declared.update.Update.{Update}
@@ -9,7 +8,7 @@ use Rattle.ck_history.specs.Map.{answer_after}
 use Rattle.ck_history.specs.Legal.{Query, ArePlaced, AreLegal}
 use Rattle.ck_report.specs.declared.asked.Asked.{Asked}
 use Rattle.ck_judge.specs.Verdict.{AreOf, IsLegalFile, AreLeast}
-use Rattle.ck_judge.specs.Placing.{IsPlace, IsNextPlace, NoNextPlace}
+use Rattle.ck_judge.specs.Placing.{IsPlaceOf, IsNextPlace, NoNextPlace}
 
 -- each number is at most the one beside it
 abbrev pub NotAbove : List ℕ → List ℕ → Type 0
@@ -60,7 +59,7 @@ module _ {K : Type 0} (cmp : K → K → Ordering) (most : ℕ) (us : List (Upda
   PlacedFrom low [] (a ∷ as_) ps = ⊥
   PlacedFrom low (q ∷ qs) [] ps = ⊥
   PlacedFrom low (q ∷ qs) (a ∷ as_) [] = ⊥
-  PlacedFrom low (q ∷ qs) (a ∷ as_) (p ∷ ps) = (low ≤ p) × IsPlace cmp most us q a p × PlacedFrom p qs as_ ps
+  PlacedFrom low (q ∷ qs) (a ∷ as_) (p ∷ ps) = (low ≤ p) × IsPlaceOf cmp most us q a p × PlacedFrom p qs as_ ps
 
   -- such places make the answers legal, ..
   place_keys : (low : ℕ) (qs : List (Query K)) (answers : List (Asked K)) (ps : List ℕ) → PlacedFrom low qs answers ps → AreOf cmp qs answers
@@ -128,7 +127,7 @@ module _ {K : Type 0} (cmp : K → K → Ordering) (most : ℕ) (us : List (Upda
     whole : os ≡ front ++ last ∷ []
     before : PlacedFrom low qs answers front
     above : last_of low front ≤ last
-    here : IsPlace cmp most us q a last
+    here : IsPlaceOf cmp most us q a last
 
   last_place : (low : ℕ) (qs : List (Query K)) (answers : List (Asked K)) (q : Query K) (a : Asked K) (os : List ℕ) → length answers ≡ length qs → PlacedFrom low (qs ++ q ∷ []) (answers ++ a ∷ []) os → LastPlace low qs answers q a os
   last_place low [] [] q a [] same h = absurd h
@@ -141,7 +140,7 @@ module _ {K : Type 0} (cmp : K → K → Ordering) (most : ℕ) (us : List (Upda
       let one = last_place o qs more q a os (omega arith) h.2 in
       record { front = o ∷ one.front; last = one.last; whole = ap (λ l. o ∷ l) one.whole; before = (h.0, h.1, one.before); above = one.above; here = one.here }
 
-  one_more_place : (low : ℕ) (qs : List (Query K)) (answers : List (Asked K)) (q : Query K) (a : Asked K) (ps : List ℕ) (p : ℕ) → PlacedFrom low qs answers ps → last_of low ps ≤ p → IsPlace cmp most us q a p → PlacedFrom low (qs ++ q ∷ []) (answers ++ a ∷ []) (ps ++ p ∷ [])
+  one_more_place : (low : ℕ) (qs : List (Query K)) (answers : List (Asked K)) (q : Query K) (a : Asked K) (ps : List ℕ) (p : ℕ) → PlacedFrom low qs answers ps → last_of low ps ≤ p → IsPlaceOf cmp most us q a p → PlacedFrom low (qs ++ q ∷ []) (answers ++ a ∷ []) (ps ++ p ∷ [])
   one_more_place low [] [] q a [] p h le here = (le, here, tt)
   one_more_place low [] [] q a (x ∷ ps) p h le here = absurd h
   one_more_place low [] (b ∷ more) q a ps p h le here = absurd h

@@ -1,4 +1,5 @@
 mod Deciding
+mod Ending
 mod Entries
 mod Filing
 mod Greedy

@@ -1,5 +1,5 @@
 -- The places of a file's answers so far.
-use Rattle.std.proofs.Common.{◌≡◌, ℕ, zero, suc, ◌+◌, ◌<◌, ◌≤◌, min, List, [], ◌∷◌, ◌++◌, length, map, take, get_or, refl, ap, sym, ◌∙◌, subst, arith, ◌⊎◌, inl, inr}
+use Rattle.std.proofs.Common.{◌≡◌, ℕ, suc, ◌+◌, ◌<◌, ◌≤◌, List, [], ◌∷◌, ◌++◌, length, map, take, get_or, refl, ap, sym, ◌∙◌, subst, arith, ◌⊎◌, inl, inr}
 use Rattle.std.specs.declared.cmp.Ordering.{Ordering}
 use Rattle.std.proofs.lemmas.List.{take_more, take_all, length-map, length-take}
 use Rattle.ck_history.specs.declared.update.Update.{Update}
@@ -9,7 +9,7 @@ use Rattle.ck_judge.specs.declared.bounds.Bounded.{Bounded}
 use Rattle.ck_judge.specs.Bounds.{query_of}
 use Rattle.ck_judge.specs.Verdict.{AreOf, IsLegalFile, IsFirstWrong, AreLeast}
 use Rattle.ck_judge.specs.Placing.{IsNextPlace, NoNextPlace}
-use Rattle.ck_judge.proofs.Greedy.{PlacedFrom, IsGreedy, greedy_start, greedy_more, greedy_ends, greedy_least, legal_places, places_of_legal}
+use Rattle.ck_judge.proofs.Greedy.{IsGreedy, greedy_start, greedy_more, greedy_ends, greedy_least, legal_places, places_of_legal}
 use Rattle.ck_judge.proofs.Recalling.{read_mapped}
 use Rattle.ck_judge.proofs.Named.{le_or_gt}
 

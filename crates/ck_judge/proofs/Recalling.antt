@@ -1,8 +1,7 @@
 -- What a history says a key has at a place, and where it has a value next.
-use Rattle.std.proofs.Common.{◌≡◌, ◌≢◌, ℕ, zero, suc, ◌+◌, ◌-◌, ◌<◌, ◌≤◌, ◌⊎◌, inl, inr, Bool, true, false, List, [], ◌∷◌, length, map, get_or, refl, ap, sym, ◌∙◌, subst, arith, zero-add, true≢false, Option, Some, None, MatchOption}
+use Rattle.std.proofs.Common.{◌≡◌, ℕ, zero, suc, ◌+◌, ◌-◌, ◌<◌, ◌≤◌, inl, inr, List, [], ◌∷◌, length, map, get_or, refl, ap, sym, ◌∙◌, arith, zero-add, Option, Some, None, MatchOption}
 use Rattle.std.specs.declared.cmp.Ordering.{Ordering}
-use Rattle.std.specs.declared.cmp.Ordering.TheVariants.{Less, Equal, Greater}
-use Rattle.std.specs.Ordering.{ordering_reverse, is_lt}
+use Rattle.std.specs.declared.cmp.Ordering.TheVariants.{Equal}
 use Rattle.std.specs.Cmp.{IsTotalOrder}
 use Rattle.std.specs.List.{All, Contains}
 use Rattle.std.specs.List.Sorted.{IsPermutation}
@@ -12,30 +11,14 @@ use Rattle.ck_history.specs.Places.{IsAnswerAt}
 use Rattle.ck_judge.specs.declared.changes.Change.{Change}
 use Rattle.ck_judge.specs.declared.changes.Given.{Given}
 use Rattle.ck_judge.specs.declared.history.History.{History}
-use Rattle.ck_judge.specs.Changes.{IsEntry, HasEntry, AreEntries}
-use Rattle.ck_judge.specs.Searches.{change_cmp, given_cmp, EndsAt}
-use Rattle.ck_judge.specs.History.{given_by, has_at, IsHistory, NoAnswerFrom, IsNextAnswer, IsGiven, IsFirstGiven, GivesNext}
-use Rattle.ck_judge.proofs.Entries.{entry_told, settled, HasBetween, given_between}
-use Rattle.ck_judge.proofs.Searching.{past, from_on, change_found, last_within, last_latest, given_found, first_within, first_least}
-
--- what isn't above an element below x is below x
-pub below_too : {T : Type 0} {R : T → T → Ordering} (total : IsTotalOrder R) (a b x : T) → is_lt (R b a) ≡ false → is_lt (R b x) ≡ true → is_lt (R a x) ≡ true
-below_too {T} {R} total a b x not below = by_order (R b a) refl not
-  where
-    less : (r : Ordering) → is_lt r ≡ true → r ≡ Less
-    less Less e = refl
-    less Equal e = absurd (true≢false (sym e))
-    less Greater e = absurd (true≢false (sym e))
-
-    by_order : (r : Ordering) → R b a ≡ r → is_lt r ≡ false → is_lt (R a x) ≡ true
-    by_order Less e not = absurd (true≢false not)
-    by_order Equal e not = ap is_lt (sym (total.congr b a x e)) ∙ below
-    by_order Greater e not = ap is_lt (total.trans a b x (total.antisymm a b ∙ ap ordering_reverse e) (less (R b x) below))
+use Rattle.ck_judge.specs.Changes.{IsRightEntry, AreEntries}
+use Rattle.ck_judge.specs.History.{given_by, has_at, IsHistory, NoAnswerFrom, IsNextAnswer, IsGiven, GivesNext}
+use Rattle.ck_judge.proofs.Entries.{entry_told, settled, given_between}
 
 -- the same entries in another order
 pub entries_moved : {K : Type 0} (cmp : K → K → Ordering) {E : Type 0} (key_of : E → K) (place_of : E → ℕ) (value_of : E → Option ℕ) (count : ℕ) (gives : ℕ → K → Option ℕ) (es fs : List E) → IsPermutation es fs → AreEntries cmp key_of place_of value_of count gives es → AreEntries cmp key_of place_of value_of count gives fs
 entries_moved cmp key_of place_of value_of count gives es fs moved are = record {
-  told = All-permutation (IsEntry cmp key_of place_of value_of count gives) es fs moved are.told;
+  told = All-permutation (IsRightEntry cmp key_of place_of value_of count gives) es fs moved are.told;
   each = λ p k lt. elim (are.each p k lt) [
     | inl same ↦ inl same
     | inr has ↦ inr (record { entry = has.entry; there = Contains-permutation es fs has.entry moved has.there; key = has.key; place = has.place })
@@ -50,7 +33,7 @@ read_mapped f (x ∷ xs) zero d = refl
 read_mapped f (x ∷ xs) (suc i) d = read_mapped f xs i d
 
 module _ {K : Type 0} (cmp : K → K → Ordering) (count : ℕ) (gives : ℕ → K → Option ℕ) where
-  told_given : (cs : List (Change K)) → All (IsEntry cmp (λ c. c.key) (λ c. c.place) (λ c. c.value) count gives) cs → (i : ℕ) (d : Given K) → i < length (map given_by cs) → IsEntry cmp (λ c. c.key) (λ c. c.place) (λ c. c.value) count gives (get_or (map given_by cs) i d)
+  told_given : (cs : List (Change K)) → All (IsRightEntry cmp (λ c. c.key) (λ c. c.place) (λ c. c.value) count gives) cs → (i : ℕ) (d : Given K) → i < length (map given_by cs) → IsRightEntry cmp (λ c. c.key) (λ c. c.place) (λ c. c.value) count gives (get_or (map given_by cs) i d)
   told_given [] told i d lt = absurd (omega arith)
   told_given (c ∷ cs) told zero d lt = let here = told zero c (omega arith) in record { within = here.within; told = here.told }
   told_given (c ∷ cs) told (suc i) d lt = told_given cs (λ k e within. told (suc k) e (omega arith)) i d (omega arith)

@@ -1,14 +1,14 @@
 -- The changes that updates make are entries of what each key has.
-use Rattle.std.proofs.Common.{◌≡◌, ◌≢◌, ℕ, zero, suc, ◌+◌, ◌<◌, ◌≤◌, ◌⊎◌, inl, inr, Bool, true, false, cond, List, [], ◌∷◌, ◌++◌, length, take, get_or, refl, ap, sym, ◌∙◌, subst, arith, true≢false, Option, Some, None}
+use Rattle.std.proofs.Common.{◌≡◌, ℕ, zero, suc, ◌+◌, ◌<◌, ◌≤◌, ◌⊎◌, inl, inr, true, false, cond, List, [], ◌∷◌, ◌++◌, length, take, get_or, refl, ap, sym, ◌∙◌, subst, arith, true≢false, Option, Some, None}
 use Rattle.std.specs.declared.cmp.Ordering.{Ordering}
 use Rattle.std.specs.declared.cmp.Ordering.TheVariants.{Less, Equal, Greater}
 use Rattle.std.specs.Ordering.{match_ordering, is_eq}
 use Rattle.std.specs.Option.{option_map_or}
 use Rattle.std.specs.Prelude.{nat_lt}
 use Rattle.std.specs.Cmp.{IsTotalOrder}
-use Rattle.std.proofs.lemmas.Cmp.{alike_right, tied_back}
-use Rattle.std.specs.List.{All, AllByRecursion, Contains}
-use Rattle.std.specs.Map.{lookup, remove_entry}
+use Rattle.std.proofs.lemmas.Cmp.{alike_right}
+use Rattle.std.specs.List.{AllByRecursion}
+use Rattle.std.specs.Map.{remove_entry}
 use Rattle.std.specs.BTreeMap.{is_at, insert_entry}
 use Rattle.ck_history.specs.declared.update.Update.{Update}
 use Rattle.ck_history.specs.declared.update.Update.TheVariants.{Set, Put, Del, Tidy}
@@ -16,7 +16,7 @@ use Rattle.ck_history.specs.declared.update.Reply.{Reply}
 use Rattle.ck_history.specs.declared.update.Reply.TheVariants.{Fresh, Was, Has, Missing, Full}
 use Rattle.ck_history.specs.Map.{Map, find, add, step, after_from, answer_after}
 use Rattle.ck_judge.specs.declared.changes.Change.{Change}
-use Rattle.ck_judge.specs.Changes.{IsEntry, HasEntry, AreEntries, change_by, touched_by, changes_from}
+use Rattle.ck_judge.specs.Changes.{IsRightEntry, HasEntry, AreEntries, change_by, touched_by, changes_from}
 
 not_equal : (r : Ordering) → (r ≡ Equal → ⊥) → is_eq r ≡ false
 not_equal Less h = refl
@@ -169,7 +169,7 @@ module _ {K : Type 0} {cmp : K → K → Ordering} (total : IsTotalOrder cmp) wh
     all_told m b (Del k ∷ us) = (told_first m b (Del k) us k, told_later m b (Del k) us _ (all_told (step cmp most m (Del k)).0 (b + 1) us))
     all_told m b (Tidy ∷ us) = told_later m b Tidy us _ (all_told (step cmp most m Tidy).0 (b + 1) us)
 
-    told_at : (us : List (Update K)) (cs : List (Change K)) → AllByRecursion (IsTold [] 0 us) cs → (i : ℕ) (d : Change K) → i < length cs → IsEntry cmp (λ c. c.key) (λ c. c.place) (λ c. c.value) (length us) (answer_after cmp most us) (get_or cs i d)
+    told_at : (us : List (Update K)) (cs : List (Change K)) → AllByRecursion (IsTold [] 0 us) cs → (i : ℕ) (d : Change K) → i < length cs → IsRightEntry cmp (λ c. c.key) (λ c. c.place) (λ c. c.value) (length us) (answer_after cmp most us) (get_or cs i d)
     told_at us [] h i d lt = absurd (omega arith)
     told_at us (c ∷ cs) h zero d lt =
         let here : c.place ≡ h.0.at = omega (arith, h.0.place) in

@@ -1,5 +1,5 @@
 -- The answers of a report, taken file by file.
-use Rattle.std.specs.Prelude.{◌≡◌, ℕ, ◌==◌, if◌then◌else◌, List, [], ◌∷◌, map}
+use Rattle.std.specs.Prelude.{ℕ, ◌==◌, if◌then◌else◌, List, [], ◌∷◌, map}
 use Rattle.std.specs.declared.vec.Vec.{Vec}
 use Rattle.ck_history.specs.Legal.{Query}
 use Rattle.ck_report.specs.declared.asked.Asked.{Asked}
@@ -15,11 +15,11 @@ abbrev pub as_queries : {K A : Type 0} → List (Vec (Bounded K) A) → List (Li
 as_queries files = map (λ file. map query_of file.items) files
 
 -- the answers of file f, where it is the first that is named or isn't named
-abbrev pub first_of : {K : Type 0} → ℕ → List (ℕ × List (Asked K)) → List (Asked K)
-first_of f [] = []
-first_of f (file ∷ more) = if file.0 == f then file.1 else []
+abbrev pub next_answers : {K : Type 0} → ℕ → List (ℕ × List (Asked K)) → List (Asked K)
+next_answers f [] = []
+next_answers f (file ∷ more) = if file.0 == f then file.1 else []
 
 -- the files after file f
-abbrev pub past_of : {K : Type 0} → ℕ → List (ℕ × List (Asked K)) → List (ℕ × List (Asked K))
-past_of f [] = []
-past_of f (file ∷ more) = if file.0 == f then more else file ∷ more
+abbrev pub later_files : {K : Type 0} → ℕ → List (ℕ × List (Asked K)) → List (ℕ × List (Asked K))
+later_files f [] = []
+later_files f (file ∷ more) = if file.0 == f then more else file ∷ more

@@ -21,3 +21,12 @@ pub record EndsAt {E : Type 0} (order : E → E → Ordering) (entries : List E)
   pub bound : at ≤ length entries
   pub below : (i : ℕ) (d : E) → i < at → (is_lt (order (slice_index_or entries i d) target) ≡ true) × (is_lt (order (slice_index_or entries (at - 1) d) (slice_index_or entries i d)) ≡ false)
   pub above : (i : ℕ) (d : E) → at ≤ i → i < length entries → (is_lt (order (slice_index_or entries i d) target) ≡ false) × (is_lt (order (slice_index_or entries i d) (slice_index_or entries at d)) ≡ false)
+
+module _ {E : Type 0} (order : E → E → Ordering) (entries : List E) (target : E) where
+  -- a search for the target ends at this index or after it: the entry before it is below the target
+  abbrev pub EndsFrom : ℕ → Type 0
+  EndsFrom from = (d : E) → 0 < from → from ≤ length entries → is_lt (order (slice_index_or entries (from - 1) d) target) ≡ true
+
+  -- it ends there or before: the entry there isn't below the target
+  abbrev pub EndsUpTo : ℕ → Type 0
+  EndsUpTo to = (d : E) → to < length entries → is_lt (order (slice_index_or entries to d) target) ≡ false

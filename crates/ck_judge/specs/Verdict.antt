@@ -37,14 +37,14 @@ module _ {A : Type 0} (Same : A → A → Type 0) where
     pub here : AgreeAt xs ys (at - 1) → ⊥
 
 -- the queries of query file f, where files are counted from 1
-abbrev pub queries_of : {Q : Type 0} → ℕ → List (List Q) → List Q
-queries_of zero files = []
-queries_of (suc i) files = unwrap_or (slice_get files i) []
+abbrev pub file_queries : {Q : Type 0} → ℕ → List (List Q) → List Q
+file_queries zero files = []
+file_queries (suc i) files = unwrap_or (slice_get files i) []
 
 -- the answers of file f in a report that names the files that it has answers of
-abbrev pub answers_of : {K : Type 0} → ℕ → List (ℕ × List (Asked K)) → List (Asked K)
-answers_of f [] = []
-answers_of f (file ∷ more) = if file.0 == f then file.1 else answers_of f more
+abbrev pub file_answers : {K : Type 0} → ℕ → List (ℕ × List (Asked K)) → List (Asked K)
+file_answers f [] = []
+file_answers f (file ∷ more) = if file.0 == f then file.1 else file_answers f more
 
 module _ {K : Type 0} (cmp : K → K → Ordering) where
   -- pairs are the same where their keys are equal and their values are
@@ -77,7 +77,7 @@ module _ {K : Type 0} (cmp : K → K → Ordering) where
     -- those of each query file, the files counted from f on
     abbrev pub AreLeastFrom : ℕ → List (List (Query K)) → List (ℕ × List (Asked K)) → List (List ℕ) → Type 0
     AreLeastFrom f [] named [] = Unit {0}
-    AreLeastFrom f (queries ∷ files) named (places ∷ more) = AreLeast queries (answers_of f named) places × AreLeastFrom (f + 1) files named more
+    AreLeastFrom f (queries ∷ files) named (places ∷ more) = AreLeast queries (file_answers f named) places × AreLeastFrom (f + 1) files named more
     AreLeastFrom f [] named (places ∷ more) = ⊥
     AreLeastFrom f (queries ∷ files) named [] = ⊥
 
@@ -85,7 +85,7 @@ module _ {K : Type 0} (cmp : K → K → Ordering) where
     module _ (files : List (List (Query K))) (named : List (ℕ × List (Asked K))) where
       -- the answers of file f are legal, where a file that there isn't has no queries
       abbrev pub IsRightFile : ℕ → Type 0
-      IsRightFile f = IsLegalFile (queries_of f files) (answers_of f named)
+      IsRightFile f = IsLegalFile (file_queries f files) (file_answers f named)
 
       -- the answers of each file are legal
       abbrev pub HasAnswers : Type 0
@@ -95,7 +95,7 @@ module _ {K : Type 0} (cmp : K → K → Ordering) where
       pub record IsFirstWrongAnswer (file query : ℕ) : Type 0 where
         pub counted : 0 < file
         pub before : (f : ℕ) → 0 < f → f < file → IsRightFile f
-        pub here : IsFirstWrong (queries_of file files) (answers_of file named) query
+        pub here : IsFirstWrong (file_queries file files) (file_answers file named) query
 
   module _ (most : ℕ) (script : Script K) (report : Parts K) where
     -- the replies are those of the updates

@@ -5,7 +5,7 @@ ghost use Rattle.ck_report.specs.Reports.{AreNamed};
 ghost use Rattle.ck_script.specs.Script.{said_of, updates, script_of};
 ghost use Rattle.ck_judge.specs.History.{IsHistory};
 ghost use Rattle.ck_judge.specs.Verdict.{HasAnswers, IsFirstWrongAnswer, AreLeastFrom};
-ghost use Rattle.ck_judge.specs.Files.{as_lists, as_queries, first_of, past_of};
+ghost use Rattle.ck_judge.specs.Files.{as_lists, as_queries, next_answers, later_files};
 
 use crate::bounds::{Bounded, read_bounds, read_holds, read_limits};
 use crate::history::History;
@@ -83,7 +83,7 @@ fn answers_at<'a, K: Copy>(
     at: usize,
     file: u64,
 ) -> &'a [Asked<K>]
-    ensures { result.now ≡ first_of file (drop at (as_lists named.now)) }
+    ensures { result.now ≡ next_answers file (drop at (as_lists named.now)) }
 {
     if at >= named.len() {
         return &[];
@@ -99,7 +99,7 @@ fn answers_at<'a, K: Copy>(
 // The index past the file, where it is the one that is named at this index.
 fn pass<K: Copy>(named: &[(u64, Vec<Asked<K>>)], at: usize, file: u64) -> usize
     requires { at ≤ length named.now }
-    ensures past { drop result (as_lists named.now) ≡ past_of file (drop at (as_lists named.now)) }
+    ensures past { drop result (as_lists named.now) ≡ later_files file (drop at (as_lists named.now)) }
     ensures within { result ≤ length named.now }
 {
     if at >= named.len() {

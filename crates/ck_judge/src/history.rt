@@ -2,23 +2,31 @@
 
 ghost use Rattle.std.specs.Prelude.{◌≡◌, ◌+◌, ◌≤◌, ◌<◌, ◌^◌, ℕ, [], None, length, IfOk, MatchOption, IsTrue, ◌↔◌, map};
 ghost use Rattle.std.specs.declared.cmp.Ordering.TheVariants.{Equal};
-ghost use Rattle.std.specs.List.Sorted.{IsSorted};
 ghost use Rattle.ck_history.specs.Map.{answer_after};
 ghost use Rattle.ck_judge.specs.Changes.{changes_from};
-ghost use Rattle.ck_judge.specs.Searches.{EndsAt};
 ghost use Rattle.ck_judge.specs.History.{IsHistory, NoAnswerFrom, IsNextAnswer, GivesNext, given_by};
 
 use crate::changes::{Change, Given};
+use crate::search::{Span, first_not_below};
 use ck_history::Update;
 use std::alloc::{AllocError, Global};
 
-/// The updates, what they touched by key and place, and the same by key, value and place.
+/// The updates, what they touched by key and place, and the same by key, value and place. Both lists are grouped by key
+/// alike, and `groups` says where: no contract rests on it, since a search looks whether it ends in the group.
 #[derive(Debug, Drop)]
 pub struct History<K> {
     pub updates: Vec<Update<K>>,
     pub most: u64,
     pub changes: Vec<Change<K>>,
     pub given: Vec<Given<K>>,
+    pub groups: Vec<Group<K>>,
+}
+
+/// A key, and where its changes begin.
+#[derive(Clone, Copy, Debug)]
+pub struct Group<K> {
+    pub key: K,
+    pub from: usize,
 }
 
 impl<K: Ord + Copy> History<K> {
@@ -34,14 +42,17 @@ impl<K: Ord + Copy> History<K> {
         ensures updates { IfOk result (λ h. h.updates.items ≡ updates.items) }
         ensures most { IfOk result (λ h. h.most ≡ most) }
     {
-        let mut given = given_of(alloc, &changes)?;
         changes.sort_unstable();
+        // Made of changes that are sorted by key, this list is sorted by key already, and each group is short.
+        let mut given = given_of(alloc, &changes)?;
         given.sort_unstable();
+        let groups = groups_of(alloc, &changes)?;
         Ok(History {
             updates,
             most,
             changes,
             given,
+            groups,
         })
     }
 
@@ -54,14 +65,26 @@ impl<K: Ord + Copy> History<K> {
         if from > self.updates.len() as u64 {
             return None;
         }
-        if same_value(self.value_at(key, from), value) {
+        let group = self.group_of(key);
+        if same_value(self.value_at(key, from, group), value) {
             return Some(from);
         }
-        self.next_given(key, value, from)
+        self.next_given(key, value, from, group)
+    }
+
+    // Where the changes of the key are, if there are any.
+    fn group_of(&self, key: &K) -> Span {
+        let groups = self.groups.as_slice();
+        let i = groups.partition_point(|group| group.key.cmp(key).is_lt());
+        let all = self.changes.len();
+        Span {
+            from: groups.get(i).map_or(all, |group| group.from),
+            to: groups.get(i + 1).map_or(all, |group| group.from),
+        }
     }
 
     // What the key has after so many updates: what the last change up to there says.
-    fn value_at(&self, key: &K, place: u64) -> Option<u64>
+    fn value_at(&self, key: &K, place: u64, group: Span) -> Option<u64>
         requires history { IsHistory K.cmp self.now }
         requires within { place ≤ length self.now.updates.items }
         ensures { result ≡ answer_after K.cmp self.now.most self.now.updates.items place key.now }
@@ -74,6 +97,7 @@ impl<K: Ord + Copy> History<K> {
                 place: place + 1,
                 value: None,
             },
+            group,
         );
         if at == 0 {
             return None;
@@ -87,7 +111,7 @@ impl<K: Ord + Copy> History<K> {
     }
 
     // The least place from `from` on at which an update gave the key this value.
-    fn next_given(&self, key: &K, value: Option<u64>, from: u64) -> Option<u64>
+    fn next_given(&self, key: &K, value: Option<u64>, from: u64, group: Span) -> Option<u64>
         requires { IsHistory K.cmp self.now }
         ensures { GivesNext K.cmp self.now key.now value from result }
     {
@@ -99,6 +123,7 @@ impl<K: Ord + Copy> History<K> {
                 value,
                 place: from,
             },
+            group,
         );
         if at == given.len() {
             return None;
@@ -126,6 +151,31 @@ fn given_of<K: Copy>(alloc: Global, changes: &[Change<K>]) -> Result<Vec<Given<K
         .collect(alloc)
 }
 
+// Where the changes of each key begin, in changes that are sorted.
+fn groups_of<K: Ord + Copy>(
+    alloc: Global,
+    changes: &[Change<K>],
+) -> Result<Vec<Group<K>>, AllocError> {
+    let mut groups: Vec<Group<K>> = Vec::new(alloc);
+    for (from, change) in changes.iter().enumerate() {
+        if !ends_with(&groups, &change.key) {
+            groups.push(Group {
+                key: change.key,
+                from,
+            })?;
+        }
+    }
+    Ok(groups)
+}
+
+// Whether the last group is that of the key.
+fn ends_with<K: Ord>(groups: &[Group<K>], key: &K) -> bool {
+    match groups.last() {
+        Some(group) => same_key(&group.key, key),
+        None => false,
+    }
+}
+
 // Whether it is this key that was given this value.
 fn gives<K: Ord + Copy>(given: &Given<K>, key: &K, value: Option<u64>) -> bool
     ensures { IsTrue result ↔ ((K.cmp given.now.key key.now ≡ Equal) × (given.now.value ≡ value)) }
@@ -150,12 +200,4 @@ fn same_value(a: Option<u64>, b: Option<u64>) -> bool
         (None, Some(_)) => false,
         (Some(_), None) => false,
     }
-}
-
-// The index of the first of the sorted elements that isn't below x, or their number.
-fn first_not_below<T: Ord>(elements: &[T], x: &T) -> usize
-    requires { IsSorted T.cmp elements.now }
-    ensures { EndsAt T.cmp elements.now x.now result }
-{
-    elements.partition_point(|element| element.cmp(x).is_lt())
 }

@@ -9,6 +9,7 @@ mod files;
 mod history;
 mod places;
 mod replay;
+mod search;
 #[cfg(test)]
 mod tests;
 mod verdict;

@@ -1,10 +1,10 @@
 //! One thread's run of the updates: their replies, the map after them, and what each touched.
 
-ghost use Rattle.std.specs.Prelude.{◌≡◌, ◌+◌, ◌<◌, ◌^◌, ◌++◌, ℕ, [], IfOk, OnOk};
-ghost use Rattle.ck_history.specs.Map.{Map, add, step, after_from, replies};
-ghost use Rattle.ck_history.specs.declared.update.Update.TheVariants.{Del};
+ghost use Rattle.std.specs.Prelude.{◌≡◌, ◌+◌, ◌<◌, ◌^◌, ◌++◌, [], Some, None, IfOk, OnOk};
+ghost use Rattle.ck_history.specs.Map.{find, add, step, after_from, replies};
+ghost use Rattle.ck_history.specs.declared.update.Update.TheVariants.{Set, Del};
 ghost use Rattle.ck_script.specs.Script.{said_of, updates};
-ghost use Rattle.ck_judge.specs.Changes.{touched_by, changes_from};
+ghost use Rattle.ck_judge.specs.Changes.{update_key, changes_at, changes_from};
 
 use crate::changes::Change;
 use ck_history::{Reply, Update};
@@ -54,9 +54,9 @@ pub fn replay<K: Ord + Copy>(
     let mut replies = Vec::new(alloc);
     let mut changes = Vec::new(alloc);
     for (i, u) in us.iter().enumerate() {
-        let reply = apply(&mut table, most, u)?;
+        let (reply, value) = apply(&mut table, most, u)?;
         replies.push(reply)?;
-        note(&mut changes, &table, i as u64, u)?;
+        note(&mut changes, i as u64, update_key(u), value)?;
     }
     Ok(Replayed {
         replies,
@@ -65,29 +65,44 @@ pub fn replay<K: Ord + Copy>(
     })
 }
 
-// Makes one update, and answers its reply.
+// Makes one update. Gives its reply, and what its key has after it, if it has one.
 fn apply<K: Ord + Copy>(
     table: &mut BTreeMap<K, u64>,
     most: u64,
     u: &Update<K>,
-) -> Result<Reply, AllocError>
-    ensures reply { IfOk result (λ reply. reply ≡ (step K.cmp most table.old.entries u.now).1) }
+) -> Result<(Reply, Option<u64>), AllocError>
+    ensures reply { IfOk result (λ r. r.0 ≡ (step K.cmp most table.old.entries u.now).1) }
     ensures map { OnOk result (table.new.entries ≡ (step K.cmp most table.old.entries u.now).0) }
+    ensures value { IfOk result (λ r. (k : K) → update_key u.now ≡ Some k → r.1 ≡ find K.cmp table.new.entries k) }
 {
     match *u {
-        Update::Set(key, value) => match table.get(&key).copied() {
-            Some(old) => {
-                table.insert(key, value)?;
-                Ok(Reply::Was(old))
-            }
-            None => add(table, most, key, value),
-        },
+        Update::Set(key, value) => set(table, most, key, value),
         Update::Put(key, value) => match table.get(&key).copied() {
-            Some(old) => Ok(Reply::Has(old)),
+            Some(old) => Ok((Reply::Has(old), Some(old))),
             None => add(table, most, key, value),
         },
-        Update::Del(key) => Ok(remove(table, &key)),
-        Update::Tidy => Ok(Reply::Tidied),
+        Update::Del(key) => Ok((remove(table, &key), None)),
+        Update::Tidy => Ok((Reply::Tidied, None)),
+    }
+}
+
+// Adds the pair or replaces the key's value. Only where the map is full does it look first whether the key is there.
+fn set<K: Ord + Copy>(
+    table: &mut BTreeMap<K, u64>,
+    most: u64,
+    key: K,
+    value: u64,
+) -> Result<(Reply, Option<u64>), AllocError>
+    ensures reply { IfOk result (λ r. r.0 ≡ (step K.cmp most table.old.entries (Set key value)).1) }
+    ensures map { OnOk result (table.new.entries ≡ (step K.cmp most table.old.entries (Set key value)).0) }
+    ensures value { IfOk result (λ r. r.1 ≡ find K.cmp table.new.entries key) }
+{
+    if table.len() as u64 >= most && table.get(&key).is_none() {
+        return Ok((Reply::Full, None));
+    }
+    match table.insert(key, value)? {
+        Some(old) => Ok((Reply::Was(old), Some(value))),
+        None => Ok((Reply::Fresh, Some(value))),
     }
 }
 
@@ -97,21 +112,24 @@ fn add<K: Ord + Copy>(
     most: u64,
     key: K,
     value: u64,
-) -> Result<Reply, AllocError>
-    ensures reply { IfOk result (λ reply. reply ≡ (add K.cmp most table.old.entries key value).1) }
+) -> Result<(Reply, Option<u64>), AllocError>
+    requires { find K.cmp table.old.entries key ≡ None }
+    ensures reply { IfOk result (λ r. r.0 ≡ (add K.cmp most table.old.entries key value).1) }
     ensures map { OnOk result (table.new.entries ≡ (add K.cmp most table.old.entries key value).0) }
+    ensures value { IfOk result (λ r. r.1 ≡ find K.cmp table.new.entries key) }
 {
     if table.len() as u64 >= most {
-        return Ok(Reply::Full);
+        return Ok((Reply::Full, None));
     }
     table.insert(key, value)?;
-    Ok(Reply::Fresh)
+    Ok((Reply::Fresh, Some(value)))
 }
 
 // Takes the key's pair out.
 fn remove<K: Ord + Copy>(table: &mut BTreeMap<K, u64>, key: &K) -> Reply
     ensures reply { result ≡ (step K.cmp 0 table.old.entries (Del key.now)).1 }
     ensures map { table.new.entries ≡ (step K.cmp 0 table.old.entries (Del key.now)).0 }
+    ensures absent { find K.cmp table.new.entries key.now ≡ None }
 {
     match table.remove(key) {
         Some(old) => Reply::Was(old),
@@ -119,27 +137,35 @@ fn remove<K: Ord + Copy>(table: &mut BTreeMap<K, u64>, key: &K) -> Reply
     }
 }
 
+// The key of an update, if it has one.
+fn update_key<K: Copy>(u: &Update<K>) -> Option<K>
+    ensures { result ≡ update_key u.now }
+{
+    match *u {
+        Update::Set(key, _) => Some(key),
+        Update::Put(key, _) => Some(key),
+        Update::Del(key) => Some(key),
+        Update::Tidy => None,
+    }
+}
+
 // Puts down what the key of an update has after it, where `place` updates stand before it.
-fn note<K: Ord + Copy>(
+fn note<K: Copy>(
     changes: &mut Vec<Change<K>>,
-    table: &BTreeMap<K, u64>,
     place: u64,
-    u: &Update<K>,
+    key: Option<K>,
+    value: Option<u64>,
 ) -> Result<(), AllocError>
     requires { place + 1 < 2 ^ 64 }
-    ensures { (most : ℕ) (m : Map K) → table.now.entries ≡ (step K.cmp most m u.now).0 → OnOk result (changes.new.items ≡ changes.old.items ++ touched_by K.cmp most m place u.now) }
+    ensures { OnOk result (changes.new.items ≡ changes.old.items ++ changes_at key place value) }
 {
-    let key = match *u {
-        Update::Set(key, _) => key,
-        Update::Put(key, _) => key,
-        Update::Del(key) => key,
-        Update::Tidy => return Ok(()),
-    };
-    changes.push(Change {
-        key,
-        place: place + 1,
-        value: table.get(&key).copied(),
-    })?;
+    if let Some(key) = key {
+        changes.push(Change {
+            key,
+            place: place + 1,
+            value,
+        })?;
+    }
     Ok(())
 }
 

@@ -1,9 +1,9 @@
-use Rattle.std.proofs.Common.{◌≡◌, ◌+◌, ap, ◌∙◌, sym}
+use Rattle.std.proofs.Common.{◌+◌, ap, ◌∙◌}
 use Rattle.std.specs.List.{slice_get}
 use Rattle.std.specs.Option.{unwrap_or}
 use Rattle.ck_script.specs.Script.{greatest}
 use Rattle.ck_judge.specs.Bounds.{hold_line}
-use Rattle.ck_judge.proofs.Holding.{limits_more, held_elsewhere}
+use Rattle.ck_judge.proofs.Holding.{limits_more}
 use Rattle.ck_judge.proofs.bounds.limit_by.Goals as goal
 
 pub returns : goal.returns

@@ -1,4 +1,3 @@
-use Rattle.std.proofs.Common.{arith}
 use Rattle.ck_judge.proofs.Filing.{past_here, past_other}
 use Rattle.ck_judge.proofs.files.pass.Goals as goal
 

@@ -1,6 +1,6 @@
-use Rattle.std.proofs.Common.{◌≡◌, ◌+◌, ◌++◌, ◌∷◌, [], ◌∙◌, ap, sym, subst, arith, length, map, drop}
+use Rattle.std.proofs.Common.{◌≡◌, ◌+◌, ◌++◌, ◌∷◌, [], sym, subst, arith, length, map, drop}
 use Rattle.ck_judge.specs.Bounds.{query_of}
-use Rattle.ck_judge.specs.Files.{as_lists, as_queries, first_of}
+use Rattle.ck_judge.specs.Files.{as_lists, as_queries}
 use Rattle.ck_judge.specs.Verdict.{IsLegalFile, IsFirstWrong, AreLeast}
 use Rattle.ck_judge.proofs.Named.{AreRightTo, all_right, first_beyond, wrong_next, right_next}
 use Rattle.ck_judge.proofs.Filing.{at_err, at_ok, queries_count, queries_here, queries_taken, end_left, left}

@@ -1,4 +1,4 @@
-use Rattle.std.proofs.Common.{◌≡◌, ◌≤◌, ◌+◌, arith, subst, length, map}
+use Rattle.std.proofs.Common.{◌≡◌, ◌+◌, arith, subst, length, map}
 use Rattle.ck_judge.specs.Bounds.{query_of}
 use Rattle.ck_judge.specs.Verdict.{IsFirstWrong}
 use Rattle.ck_judge.proofs.Placed.{placed_missing, placed_surplus, placed_all, placed_wrong, placed_next}

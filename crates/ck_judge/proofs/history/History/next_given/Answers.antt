@@ -1,4 +1,4 @@
-use Rattle.std.proofs.Common.{◌≡◌, ◌-◌, ◌<◌, arith, sym, ap, ◌∙◌, subst, get_or, length, refl, true≢false}
+use Rattle.std.proofs.Common.{◌≡◌, ◌<◌, arith, sym, ap, subst, get_or, length, refl, true≢false}
 use Rattle.std.proofs.lemmas.Cmp.{tied_back}
 use Rattle.ck_judge.specs.Searches.{given_cmp, EndsAt}
 use Rattle.ck_judge.proofs.Recalling.{given_answers}
