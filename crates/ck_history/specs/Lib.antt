@@ -1,4 +1,5 @@
 pub mod Key
+pub mod Laws
 pub mod Map
 pub mod Book
 pub mod Events

@@ -29,8 +29,8 @@ AreUpTo k m ps = (i p : ℕ) → i < k → slice_get ps i ≡ Some p → p ≤ m
 
 -- `places r` are those of reader r
 module _ {U R : Type 0} (places : ℕ → List ℕ) where
-  -- What the writer was told of the readers bounds their places: where `answered` gave k for a reader after m updates, the places of the
-  -- reader's first k answers are at most m. So many updates were made before these events
+  -- What `answered` told the writer bounds the readers' places from above: where it gave k for a reader, each of the reader's first k answers
+  -- has a place that is at most the number of updates before that call. The argument m is the number of updates before the first of these events
   abbrev pub AreBoundedFrom : ℕ → List (WriterEvent U R) → Type 0
   AreBoundedFrom m [] = Unit {0}
   AreBoundedFrom m (Updated u r ∷ es) = AreBoundedFrom (m + 1) es
