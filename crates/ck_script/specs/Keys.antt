@@ -58,3 +58,12 @@ table_key_faultless k Shape h fault = fault
 table_key_faultless k Beyond h fault = fault
 table_key_faultless k Many h fault = fault
 table_key_faultless k Circle h fault = fault
+
+pub table_key_fault : (w : List ℕ) (why : Why) → IsTableKeyFault w why → (why ≡ Number) ⊎ (why ≡ Key)
+table_key_fault w Number fault = inl refl
+table_key_fault w Key fault = inr refl
+table_key_fault w Verb fault = absurd fault
+table_key_fault w Shape fault = absurd fault
+table_key_fault w Beyond fault = absurd fault
+table_key_fault w Many fault = absurd fault
+table_key_fault w Circle fault = absurd fault

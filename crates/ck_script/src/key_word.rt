@@ -18,8 +18,9 @@ pub trait KeyWord: Copy {
     /// What is wrong with a word that spells no key.
     ghost is_fault: { List ℕ → Why → Type 0 };
 
-    ghost use Rattle.std.specs.Prelude.{◌≡◌, ℕ, List};
+    ghost use Rattle.std.specs.Prelude.{◌≡◌, ◌⊎◌, ℕ, List};
     ghost use Rattle.ck_script.specs.declared.fault.Why.{Why};
+    ghost use Rattle.ck_script.specs.declared.fault.Why.TheVariants.{Number, Key};
     ghost use Rattle.ck_script.specs.Text.{IsWord};
 
     /// The key that the word spells, or what is wrong with the word.
@@ -51,12 +52,15 @@ pub trait KeyWord: Copy {
 
     /// A key's spelling is one word.
     ghost one_word: { (k : Self) → is_key k → IsWord (spelling k) };
+
+    /// A word that spells no key is no number, or names no key.
+    ghost key_fault: { (word : List ℕ) (why : Why) → is_fault word why → (why ≡ Number) ⊎ (why ≡ Key) };
 }
 
 impl KeyWord for Key {
     ghost use Rattle.std.specs.Prelude.{decimal};
     ghost use Rattle.ck_history.specs.Key.{IsKey};
-    ghost use Rattle.ck_script.specs.Keys.{IsTableKeyFault, one_table_key, table_key_faultless, table_key_one_word};
+    ghost use Rattle.ck_script.specs.Keys.{IsTableKeyFault, one_table_key, table_key_faultless, table_key_one_word, table_key_fault};
 
     ghost is_key = { IsKey };
 
@@ -69,6 +73,8 @@ impl KeyWord for Key {
     ghost faultless = { table_key_faultless };
 
     ghost one_word = { table_key_one_word };
+
+    ghost key_fault = { table_key_fault };
 
     fn read_word(text: &[u8]) -> Result<Key, Why> {
         match read_decimal(text, u128::MAX) {
