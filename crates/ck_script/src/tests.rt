@@ -1,5 +1,6 @@
 use super::*;
 use ck_history::{Key, Update};
+use std::mem::size_of;
 use std::test::Fail;
 
 // The fault of what was read, if it has one. There is ample memory.
@@ -119,6 +120,13 @@ fn lines_have_their_numbers_and_keys_their_words(rt: HostRuntime) -> Result<(), 
     key.print_word(&mut word)?;
     assert_eq!(rt; word.as_slice(), b"18446744073709551616".as_slice());
     Ok(())
+}
+
+// What is kept of a line is most of a run's memory.
+#[test]
+fn a_line_is_kept_in_few_bytes(rt: HostRuntime) {
+    assert_eq!(rt; size_of::<Numbered<UpLine<Update<Key>>>>(), 48);
+    assert_eq!(rt; size_of::<Numbered<AskLine<Key>>>(), 32);
 }
 
 #[test]
