@@ -1,0 +1,6 @@
+pub mod Along
+mod Filtered
+mod Places
+mod Linking
+mod Sections
+mod Reclaiming
