@@ -1,8 +1,6 @@
 -- The tokens at the beginning and at the end.
-use Rattle.std.proofs.Common.{◌≡◌, ℕ, suc, ◌-◌, ◌<◌, ◌≤◌, true, List, [], ◌++◌, map, length, take, drop, All, refl, sym, ap, ◌∙◌, subst, arith}
-use Rattle.std.proofs.lemmas.List.{length-drop}
+use Rattle.std.proofs.Common.{◌≡◌, ℕ, suc, ◌-◌, ◌<◌, ◌≤◌, true, List, [], map, drop, All, refl, sym, ap, ◌∙◌, subst, arith}
 use Rattle.std.proofs.lemmas.List.Elements.{All-nil}
-use Rattle.std.proofs.Math.Seq.{take-append_seam}
 use Rattle.ck_run.specs.declared.account.View.{View}
 use Rattle.ck_run.specs.Run.{account}
 use Rattle.ck_run.specs.Rule.{IsRun, IsClosed}
@@ -76,8 +74,3 @@ module _ {C : Type 0} where
         safe = safe (origin w) c.run epochs_run;
         epochs = keeps_epochs (origin w) c.run epochs_run;
       }
-
--- what is left behind the words of the epochs
-pub left_behind : (k n : ℕ) (words rotated left : List ℕ) → k ≤ length words → n ≡ length words - k → rotated ≡ drop k words ++ take k words → left ≡ take n rotated → left ≡ drop k words
-left_behind k n words rotated left low is turned cut = cut ∙ (ap (take n) turned
-    ∙ (ap (λ (m : ℕ). take m (drop k words ++ take k words)) (is ∙ sym (length-drop k words)) ∙ take-append_seam (drop k words) (take k words)))

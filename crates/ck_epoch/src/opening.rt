@@ -27,13 +27,17 @@ fn opening_words<C: Client>(alloc: Global, client: &C, records: u64) -> Result<V
 {
     let base = base_word(records);
     let size = client.words();
-    let mut words = vec![in alloc; 0u64; base + size as usize]?;
+    let mut words = Vec::with_capacity(alloc, base + size as usize)?;
+    for _i in 0..base {
+        words.push_reserved(0);
+    }
     words[GLOBAL] = FIRST_EPOCH;
     for rec in 0..records {
         words[epoch_word(rec)] = FIRST_EPOCH;
     }
+    // A structure may have millions of words: each is written once.
     for at in 0..size {
-        words[base + at as usize] = client.first(at);
+        words.push_reserved(client.first(at));
     }
     Ok(words)
 }
@@ -90,7 +94,7 @@ impl<C: Client + Drop> Domain<C> {
             tokens: records + 1,
             config: About { client, records },
         };
-        let (words, mut token) = Words::new(alloc, &opening)?;
+        let (words, mut token, about) = Words::new(alloc, opening)?;
         words.part_all(&mut token, &mut passes, records, Pass::new);
         let writer = Writer {
             token,
@@ -99,7 +103,6 @@ impl<C: Client + Drop> Domain<C> {
             calls: 0,
             tally: 0,
         };
-        let Opening { config: about, .. } = opening;
         Ok((Domain { words, about }, writer, passes))
     }
 
@@ -115,10 +118,7 @@ impl<C: Client + Drop> Domain<C> {
         let Writer { mut token, .. } = writer;
         words.join_all(&mut token, passes, Pass::into_token);
         let base = base_word(about.records);
-        let mut left = words.close(token);
-        let size = left.len() - base;
-        left.rotate_left(base);
-        left.truncate(size);
+        let left = words.close(token, base);
         Closed { words: left }
     }
 }

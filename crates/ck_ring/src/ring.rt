@@ -210,7 +210,7 @@ impl Ring {
             tokens: consumers + 1,
             config: (),
         };
-        let (words, mut token) = Words::new(alloc, &opening)?;
+        let (words, mut token, ()) = Words::new(alloc, opening)?;
         words.part_all(&mut token, &mut ends, consumers, Consumer::new);
         let producer = Producer {
             token,
@@ -236,7 +236,7 @@ impl Ring {
         } = self;
         let Producer { mut token, .. } = p;
         shared.join_all(&mut token, cs, Consumer::into_token);
-        let words = shared.close(token);
+        let words = shared.close(token, 0);
         Left {
             head: words[HEAD],
             tail: words[TAIL],

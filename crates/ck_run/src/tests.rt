@@ -65,12 +65,12 @@ fn tokens_are_given_out_in_order_and_taken_in(rt: HostRuntime) -> Result<(), Fai
         config: 7u64,
     };
     let mut ends = Vec::with_capacity(rt.alloc(), 2)?;
-    let (words, mut first) = Words::<u64, Anything>::new(rt.alloc(), &opening)?;
+    let (words, mut first, config) = Words::<u64, Anything>::new(rt.alloc(), opening)?;
     words.part_all(&mut first, &mut ends, 2, end_of);
     assert_eq!(rt; (ends[0].number, ends[1].number), (1, 2));
     words.join_all(&mut first, ends, token_of);
-    let left = words.close(first);
-    assert_eq!(rt; left.as_slice(), [3].as_slice());
+    let left = words.close(first, 0);
+    assert_eq!(rt; (left.as_slice(), config), ([3].as_slice(), 7));
     Ok(())
 }
 
@@ -81,7 +81,7 @@ fn two_threads_step_and_one_closes(rt: HostRuntime) -> Result<(), Fail> {
         tokens: 2,
         config: 7u64,
     };
-    let (words, mut first) = Words::new(rt.alloc(), &opening)?;
+    let (words, mut first, _config) = Words::new(rt.alloc(), opening)?;
     let mut second = words.part(&mut first);
     let (loaded, found) = join_mut(
         &rt,
@@ -91,7 +91,7 @@ fn two_threads_step_and_one_closes(rt: HostRuntime) -> Result<(), Fail> {
     assert_eq!(rt; loaded, 5);
     assert_eq!(rt; found, (3, 3, 8));
     words.join(&mut first, second);
-    let left = words.close(first);
-    assert_eq!(rt; left.as_slice(), [3, 5, 8].as_slice());
+    let left = words.close(first, 1);
+    assert_eq!(rt; left.as_slice(), [5, 8].as_slice());
     Ok(())
 }
