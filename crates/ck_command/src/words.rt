@@ -4,7 +4,7 @@ ghost use Rattle.clap.specs.Simple.{app_of};
 ghost use Rattle.ck_command.specs.Parser.{table_app};
 ghost use Rattle.ck_command.specs.Words.{are_file_names, command_of, command_said, said_after, setting};
 
-use ck_script::read_decimal;
+use ck_text::read_decimal;
 use clap::error::ErrorKind;
 use clap::{Arg, ArgAction};
 use std::alloc::{AllocError, Global};

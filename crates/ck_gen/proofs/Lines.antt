@@ -1,7 +1,7 @@
 -- Texts that are made line by line.
 use Rattle.std.proofs.Common.{◌≡◌, ℕ, suc, ◌+◌, ◌-◌, ◌<◌, List, [], ◌∷◌, ◌++◌, map, flat_map, refl, ap, sym, subst, ◌∙◌, append_assoc, append-nil, arith}
 use Rattle.std.specs.List.{range_with_len}
-use Rattle.ck_report.specs.Text.{line}
+use Rattle.ck_text.specs.Words.{line}
 
 -- `out` came about from `x` by one line after another, of these words
 abbrev pub IsMade : List ℕ → List (List (List ℕ)) → List ℕ → Type 0

@@ -7,7 +7,7 @@ use Rattle.ck_probe.specs.Mixing.{mix_of}
 use Rattle.ck_script.specs.declared.line.UpLine.TheVariants.{Call}
 use Rattle.ck_script.specs.declared.line.AskLine.TheVariants.{Ask, Wait}
 use Rattle.ck_script.specs.Grammar.{update_words, query_words}
-use Rattle.ck_report.specs.Text.{line}
+use Rattle.ck_text.specs.Words.{line}
 
 -- one of the keys 1 to 50,000
 abbrev pub drawn_key : ℕ → ℕ

@@ -4,7 +4,7 @@ use Rattle.std.specs.List.{filter}
 use Rattle.ck_history.specs.declared.update.Reply.{Reply}
 use Rattle.ck_history.specs.declared.update.Reply.TheVariants.{Fresh, Was, Has, Missing}
 use Rattle.ck_probe.specs.Mixing.{mix_of, key_code_of}
-use Rattle.ck_report.specs.Text.{line}
+use Rattle.ck_text.specs.Words.{line}
 use Rattle.ck_gen.specs.declared.summary.ReplyKind.{ReplyKind}
 use Rattle.ck_gen.specs.declared.summary.ReplyKind.TheVariants as kinds
 use Rattle.ck_gen.specs.declared.summary.Summary.{Summary}

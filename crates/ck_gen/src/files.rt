@@ -1,12 +1,12 @@
 //! The generated files.
 ghost use Rattle.std.specs.Prelude.{◌≡◌, ◌≤◌, ◌++◌, ◌∷◌, [], IfOk, OnOk, codes, decimal};
-ghost use Rattle.ck_report.specs.Text.{line};
+ghost use Rattle.ck_text.specs.Words.{line};
 ghost use Rattle.ck_gen.specs.Generated.{drawn_key, drawn_update, update_line, query_line, update_text, query_text};
 
 use ck_history::{Key, Update};
 use ck_probe::mix;
 use ck_script::KeyWord;
-use itoa::Buffer;
+use ck_text::print_number;
 use std::alloc::{AllocError, Global};
 
 /// How many keys the lines are about: 1 to this one.
@@ -33,7 +33,7 @@ pub fn queries(alloc: Global, seed: u64, lines: u64) -> Result<Vec<u8>, AllocErr
 {
     let mut out = Vec::new(alloc);
     out.extend_from_slice(b"wait ")?;
-    print_number(&mut out, lines)?;
+    print_number(&mut out, lines as u128)?;
     out.push(b'\n')?;
     for i in 0..lines {
         print_query(&mut out, &draw_key(mix(i + 1, seed ^ 1)))?;
@@ -103,15 +103,7 @@ fn print_pair(out: &mut Vec<u8>, verb: &[u8], key: &Key, value: u64) -> Result<(
     out.extend_from_slice(verb)?;
     key.print_word(out)?;
     out.push(b' ')?;
-    print_number(out, value)?;
+    print_number(out, value as u128)?;
     out.push(b'\n')?;
     Ok(())
-}
-
-// A number in decimal.
-pub fn print_number(out: &mut Vec<u8>, n: u64) -> Result<(), AllocError>
-    ensures { OnOk result (out.new.items ≡ out.old.items ++ decimal n) }
-{
-    let mut buffer = Buffer::new();
-    out.extend_from_slice(buffer.format(n).as_bytes())
 }

@@ -1,12 +1,12 @@
 //! The summary of a run.
 ghost use Rattle.std.specs.Prelude.{◌≡◌, ◌≤◌, ◌++◌, ◌∷◌, [], IfOk, OnOk, decimal, length};
 ghost use Rattle.std.specs.List.{filter};
-ghost use Rattle.ck_report.specs.Text.{line};
+ghost use Rattle.ck_text.specs.Words.{line};
 ghost use Rattle.ck_gen.specs.Summaries.{is_of_kind, is_found, summary_of, summary_lines, sum_from};
 
-use crate::files::print_number;
 use ck_history::{Key, Reply};
 use ck_probe::{key_code, mix};
+use ck_text::print_number;
 use std::alloc::{AllocError, Global};
 
 /// What a run of generated files came to.
@@ -128,7 +128,7 @@ fn print_count(out: &mut Vec<u8>, name: &str, count: u64) -> Result<(), AllocErr
 {
     out.extend_from_slice(name.as_bytes())?;
     out.push(b' ')?;
-    print_number(out, count)?;
+    print_number(out, count as u128)?;
     out.push(b'\n')?;
     Ok(())
 }

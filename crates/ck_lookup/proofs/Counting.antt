@@ -7,7 +7,7 @@ use Rattle.ck_history.specs.declared.update.Update.{Update}
 use Rattle.ck_script.specs.declared.line.Numbered.{Numbered}
 use Rattle.ck_script.specs.declared.line.UpLine.{UpLine}
 use Rattle.ck_script.specs.declared.line.AskLine.{AskLine}
-use Rattle.ck_script.specs.Text.{lines}
+use Rattle.ck_text.specs.Lines.{lines}
 use Rattle.ck_script.specs.Grammar.{Say, FileSays, IsUpdateLine, update_words, IsQueryLine, query_words}
 use Rattle.ck_script.specs.Script.{QueriesSay}
 use Rattle.ck_pool.specs.Served.{lines_of, line_total}

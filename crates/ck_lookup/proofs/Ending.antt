@@ -20,10 +20,10 @@ use Rattle.ck_script.proofs.Meaning.{one_update_file, one_query_file}
 use Rattle.ck_script.proofs.Saying.{no_first_fault}
 use Rattle.ck_lookup.specs.declared.outcome.Outcome.{Outcome}
 use Rattle.ck_lookup.specs.declared.outcome.Outcome.TheVariants.{Done, Usage, ReadFault, BadScript, TooLarge, WriteFault, NoMemory}
-use Rattle.ck_lookup.specs.Headline.{IsReport}
+use Rattle.ck_lookup.specs.Headline.{IsReportOf}
 use Rattle.ck_lookup.specs.Limits.{AreWithin, line_count}
 use Rattle.ck_command.specs.Words.{Command, names}
-use Rattle.ck_lookup.specs.Causes.{Tells, AreRead, AreSaid, AreAccepted, IsBadScript, IsLawful, IsFaultOf, HasReport, Outside, Ends, IsClear, IsDoneOrNoMemory}
+use Rattle.ck_lookup.specs.Causes.{Tells, AreRead, AreSaid, AreAccepted, IsBadScript, IsLawful, IsFaultOf, HasReport, Outside, MayEndWith, IsClear, IsDoneOrNoMemory}
 use Rattle.ck_lookup.specs.Running.{AreRunnable, IsRefusedScript, IsRefusedRun, MayBegin, IsTextOf, HasPut}
 use Rattle.ck_lookup.proofs.Reporting.{report_is, begins}
 use Rattle.ck_lookup.proofs.Told.{read_told}
@@ -90,11 +90,11 @@ module _ (held : List ℕ → Option (List ℕ)) (names : List (List ℕ)) where
       begins r.update_file r.query_files ups asks r.within r.said (omega (arith, long, some)) (omega (arith, long, few))
 
   -- a report of the files that there are is one of the files that are told
-  told_report : (text : List ℕ) (u : List ℕ) (qs : List (List ℕ)) → HasReport held names text → Tells held names u qs → AreAccepted u qs × IsReport u qs text
+  told_report : (text : List ℕ) (u : List ℕ) (qs : List (List ℕ)) → HasReport held names text → Tells held names u qs → AreAccepted u qs × IsReportOf u qs text
   told_report text u qs has tells =
       let same = told_files u qs has.update_file has.query_files has.read tells in (
         subst (λ q. AreAccepted u q) same.1 (subst (λ v. AreAccepted v has.query_files) same.0 has.accepted),
-        subst (λ q. IsReport u q text) same.1 (subst (λ v. IsReport v has.query_files text) same.0 has.report),
+        subst (λ q. IsReportOf u q text) same.1 (subst (λ v. IsReportOf v has.query_files text) same.0 has.report),
       )
 
 -- files that were read under names, of which there is one, are one and others
@@ -164,7 +164,7 @@ no_bad_script u qs file fault accepted (inr beyond) =
     absurd (cc)
 
 -- where nothing stands against a whole report, the run is done or finds no memory
-complete : (o : Outside) (ns : List (List ℕ)) (outcome : Outcome) (u : List ℕ) (qs : List (List ℕ)) → Ends o ns outcome → IsClear o ns u qs → IsDoneOrNoMemory outcome
+complete : (o : Outside) (ns : List (List ℕ)) (outcome : Outcome) (u : List ℕ) (qs : List (List ℕ)) → MayEndWith o ns outcome → IsClear o ns u qs → IsDoneOrNoMemory outcome
 complete o ns Done u qs ends clear = inl refl
 complete o ns Usage u qs ends clear = absurd ends
 complete o ns (ReadFault file) u qs ends clear = absurd (clear.read ends.0.name ends.0.rose)
@@ -182,26 +182,26 @@ complete o ns WriteFault u qs ends clear = absurd (clear.written ends.1)
 complete o ns NoMemory u qs ends clear = inr refl
 
 -- the same, of a command that the words give
-pub complete_asked : (o : Outside) (words : Option Command) (c asked : Command) (outcome : Outcome) (u : List ℕ) (qs : List (List ℕ)) → words ≡ Some c → words ≡ Some asked → Ends o (names c) outcome → IsClear o (names asked) u qs → IsDoneOrNoMemory outcome
+pub complete_asked : (o : Outside) (words : Option Command) (c asked : Command) (outcome : Outcome) (u : List ℕ) (qs : List (List ℕ)) → words ≡ Some c → words ≡ Some asked → MayEndWith o (names c) outcome → IsClear o (names asked) u qs → IsDoneOrNoMemory outcome
 complete_asked o words c asked outcome u qs is also ends clear =
     let same : c ≡ asked = cc in
-    complete o (names asked) outcome u qs (subst (λ k. Ends o (names k) outcome) same ends) clear
+    complete o (names asked) outcome u qs (subst (λ k. MayEndWith o (names k) outcome) same ends) clear
 
 -- where the run is done and the shelf tells the files, the sink took a report of them
-report_told : (o : Outside) (ns : List (List ℕ)) (outcome : Outcome) (u : List ℕ) (qs : List (List ℕ)) → Ends o ns outcome → Tells o.held ns u qs → outcome ≡ Done
-    → AreAccepted u qs × ((text : List ℕ) × IsReport u qs text × (o.taken_after ≡ appended o.taken_before text))
+report_told : (o : Outside) (ns : List (List ℕ)) (outcome : Outcome) (u : List ℕ) (qs : List (List ℕ)) → MayEndWith o ns outcome → Tells o.held ns u qs → outcome ≡ Done
+    → AreAccepted u qs × ((text : List ℕ) × IsReportOf u qs text × (o.taken_after ≡ appended o.taken_before text))
 report_told o ns outcome u qs ends tells done =
-    let whole : Ends o ns Done = subst (Ends o ns) done ends in
+    let whole : MayEndWith o ns Done = subst (MayEndWith o ns) done ends in
     let put = whole.1 in
     let told = told_report o.held ns put.0 u qs put.1 tells in
     (told.0, (put.0, told.1, put.2))
 
 -- the same, of a command that the words give
-pub report_asked : (o : Outside) (words : Option Command) (c asked : Command) (outcome : Outcome) (u : List ℕ) (qs : List (List ℕ)) → words ≡ Some c → words ≡ Some asked → Ends o (names c) outcome → Tells o.held (names asked) u qs → outcome ≡ Done
-    → AreAccepted u qs × ((text : List ℕ) × IsReport u qs text × (o.taken_after ≡ appended o.taken_before text))
+pub report_asked : (o : Outside) (words : Option Command) (c asked : Command) (outcome : Outcome) (u : List ℕ) (qs : List (List ℕ)) → words ≡ Some c → words ≡ Some asked → MayEndWith o (names c) outcome → Tells o.held (names asked) u qs → outcome ≡ Done
+    → AreAccepted u qs × ((text : List ℕ) × IsReportOf u qs text × (o.taken_after ≡ appended o.taken_before text))
 report_asked o words c asked outcome u qs is also ends tells done =
     let same : c ≡ asked = cc in
-    report_told o (names asked) outcome u qs (subst (λ k. Ends o (names k) outcome) same ends) tells done
+    report_told o (names asked) outcome u qs (subst (λ k. MayEndWith o (names k) outcome) same ends) tells done
 
 -- what an answer says, as something else
 pub ok_more : {T E : Type 0} {P Q : T → Type 0} (r : Result T E) → ((x : T) → P x → Q x) → IfOk r P → IfOk r Q

@@ -13,14 +13,14 @@ use Rattle.ck_script.specs.declared.line.UpLine.{UpLine}
 use Rattle.ck_script.specs.declared.line.UpLine.TheVariants.{Call, Hold}
 use Rattle.ck_script.specs.declared.line.AskLine.{AskLine}
 use Rattle.ck_script.specs.Grammar.{IsUpdateLine}
-use Rattle.ck_script.specs.Text.{lines}
+use Rattle.ck_text.specs.Lines.{lines}
 use Rattle.ck_script.specs.Script.{said_of, updates, holds, HoldLine, bounded_files, Script, script_of}
 use Rattle.ck_script.proofs.Saying.{Say-taken}
 use Rattle.ck_report.specs.declared.asked.Asked.{Asked}
 use Rattle.ck_report.specs.Text.{report_text}
 use Rattle.ck_pool.specs.declared.answered.Answered.{Answered}
 use Rattle.ck_pool.specs.Snapshots.{job_script, IsAnswered}
-use Rattle.ck_lookup.specs.Headline.{capacity, IsReport, all_asked}
+use Rattle.ck_lookup.specs.Headline.{capacity, IsReportOf, all_asked}
 use Rattle.ck_lookup.specs.Limits.{AreWithin}
 use Rattle.ck_report.specs.declared.put.PutError.{PutError}
 use Rattle.ck_report.specs.declared.put.PutError.TheVariants.{Failed}
@@ -96,7 +96,7 @@ module _ (ups : List (Numbered (UpLine (Update ℕ)))) (asks : List (Vec (Number
       }
 
 -- a text of what files ask for is a report of them
-pub report_is : (update_file : List ℕ) (query_files : List (List ℕ)) (ups : List (Numbered (UpLine (Update ℕ)))) (asks : List (List (Numbered (AskLine ℕ)))) (text : List ℕ) → AreSaid update_file query_files ups asks → IsTextOf (script_of (said_of ups) (map said_of asks)) text → IsReport update_file query_files text
+pub report_is : (update_file : List ℕ) (query_files : List (List ℕ)) (ups : List (Numbered (UpLine (Update ℕ)))) (asks : List (List (Numbered (AskLine ℕ)))) (text : List ℕ) → AreSaid update_file query_files ups asks → IsTextOf (script_of (said_of ups) (map said_of asks)) text → IsReportOf update_file query_files text
 report_is update_file query_files ups asks text said is = record {
   script = script_of (said_of ups) (map said_of asks);
   meant = record { ups = ups; asks = asks; updates_said = said.updates_said; queries_said = said.queries_said; asked = refl };

@@ -16,7 +16,7 @@ use Rattle.ck_script.specs.Keys.{IsTableKeyFault}
 use Rattle.ck_lookup.specs.declared.outcome.Outcome.{Outcome}
 use Rattle.ck_lookup.specs.declared.outcome.Outcome.TheVariants.{Done, Usage, ReadFault, BadScript, TooLarge, WriteFault, NoMemory}
 use Rattle.ck_lookup.specs.Limits.{AreWithin}
-use Rattle.ck_lookup.specs.Headline.{IsReport}
+use Rattle.ck_lookup.specs.Headline.{IsReportOf}
 
 -- the file with this number is in the grammar: file 0 is the update file, the others are query files
 abbrev pub IsLawful : ℕ → List ℕ → Type 0
@@ -111,7 +111,7 @@ module _ (held : List ℕ → Option (List ℕ)) (names : List (List ℕ)) where
     pub query_files : List (List ℕ)
     pub read : AreRead held names (update_file ∷ query_files)
     pub accepted : AreAccepted update_file query_files
-    pub report : IsReport update_file query_files text
+    pub report : IsReportOf update_file query_files text
 
 -- the outside of a run: what the shelf holds, the counts of faults, and what the sink took, before and after the run
 pub record Outside : Type 0 where
@@ -140,15 +140,15 @@ module _ (o : Outside) (names : List (List ℕ)) where
   abbrev pub PutFront : Type 0
   PutFront = (text : List ℕ) × HasReport o.held names text × AppendsPrefix o.taken_before o.taken_after text
 
-  -- how a run of these files may end, with the cause of each outcome, and with none of the refusals that come before it
-  abbrev pub Ends : Outcome → Type 0
-  Ends Done = FetchedAll × PutReport
-  Ends Usage = ⊥
-  Ends (ReadFault file) = IsReadFault o.held names o.shelf_before o.shelf_after file × PutNothing
-  Ends (TooLarge file) = FetchedAll × IsTooLarge o.held names file × PutNothing
-  Ends (BadScript file line why) = FetchedAll × HasBadScript o.held names file (record { line = line; why = why }) × PutNothing
-  Ends WriteFault = FetchedAll × Rose o.sink_before o.sink_after × PutFront
-  Ends NoMemory = PutNothing ⊎ (FetchedAll × PutFront)
+  -- a run of these files may end with the outcome: that has its cause, and none of the refusals that come before it
+  abbrev pub MayEndWith : Outcome → Type 0
+  MayEndWith Done = FetchedAll × PutReport
+  MayEndWith Usage = ⊥
+  MayEndWith (ReadFault file) = IsReadFault o.held names o.shelf_before o.shelf_after file × PutNothing
+  MayEndWith (TooLarge file) = FetchedAll × IsTooLarge o.held names file × PutNothing
+  MayEndWith (BadScript file line why) = FetchedAll × HasBadScript o.held names file (record { line = line; why = why }) × PutNothing
+  MayEndWith WriteFault = FetchedAll × Rose o.sink_before o.sink_after × PutFront
+  MayEndWith NoMemory = PutNothing ⊎ (FetchedAll × PutFront)
 
   -- nothing stands against a whole report: the shelf tells files of which nothing is refused, and no count of faults rose
   pub record IsClear (update_file : List ℕ) (query_files : List (List ℕ)) : Type 0 where

@@ -24,7 +24,7 @@ all_asked _ _ = []
 
 -- The text is a report of an update file and of query files: it gives each update's reply by the map of one thread,
 -- each query's answer by that map after some number of updates, legal for its file, and the map after all updates.
-pub record IsReport (update_file : List ℕ) (query_files : List (List ℕ)) (text : List ℕ) : Type 0 where
+pub record IsReportOf (update_file : List ℕ) (query_files : List (List ℕ)) (text : List ℕ) : Type 0 where
   pub script : Script ℕ
   pub meant : Means IsKey decimal update_file query_files script
   pub answers : List (List (Option ℕ))

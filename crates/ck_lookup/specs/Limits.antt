@@ -1,7 +1,7 @@
 -- How large files may be.
 use Rattle.std.specs.Prelude.{ℕ, ◌≤◌, List, length, sum_by}
 use Rattle.std.specs.List.{AllByRecursion}
-use Rattle.ck_script.specs.Text.{lines}
+use Rattle.ck_text.specs.Lines.{lines}
 
 -- bytes and lines of one file
 abbrev pub most_bytes : ℕ

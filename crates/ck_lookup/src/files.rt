@@ -2,7 +2,7 @@ ghost use Rattle.std.specs.Prelude.{◌≡◌, ◌+◌, ◌≤◌, ◌<◌, ◌�
 ghost use Rattle.ck_lookup.specs.Limits.{AreWithin};
 ghost use Rattle.ck_lookup.specs.Fetching.{IsNotAdded};
 
-use ck_script::count_lines;
+use ck_text::count_lines;
 use std::alloc::{AllocFailed, Global};
 use std::marker::Model;
 

@@ -3,8 +3,8 @@ ghost use Rattle.ck_io.specs.Faults.{NeverFall};
 ghost use Rattle.ck_io.specs.Sink.{appended};
 ghost use Rattle.ck_lookup.specs.declared.outcome.Outcome.TheVariants.{Done, Usage, NoMemory};
 ghost use Rattle.ck_command.specs.Words.{Command, names, command_of};
-ghost use Rattle.ck_lookup.specs.Headline.{IsReport};
-ghost use Rattle.ck_lookup.specs.Causes.{Tells, AreAccepted, Ends, IsClear, IsDoneOrNoMemory};
+ghost use Rattle.ck_lookup.specs.Headline.{IsReportOf};
+ghost use Rattle.ck_lookup.specs.Causes.{Tells, AreAccepted, MayEndWith, IsClear, IsDoneOrNoMemory};
 
 use crate::outcome::Outcome;
 use crate::report::{job_of, put_job};
@@ -38,12 +38,12 @@ pub fn run<R: Threads + Wait + Sync, S: Shelf, K: Sink, G: Gate + Sync>(
         → Tells (S.held shelf.old) (names c) update_file query_files
         → result ≡ Done
         → AreAccepted update_file query_files
-        × ((text : List ℕ) × IsReport update_file query_files text × (K.taken sink.new ≡ appended (K.taken sink.old) text)) }
+        × ((text : List ℕ) × IsReportOf update_file query_files text × (K.taken sink.new ≡ appended (K.taken sink.old) text)) }
 
     // Every outcome has its cause, and none of the refusals that come before it. Where the shelf tells no bytes, there are
     // bytes for each file of which all this holds.
     ensures ends { (c : Command) → command_of (map string_bytes words.now) ≡ Some c
-        → Ends (record {
+        → MayEndWith (record {
           held = S.held shelf.old;
           shelf_before = S.faults shelf.old;
           shelf_after = S.faults shelf.new;
@@ -104,7 +104,7 @@ fn run_table<R: Threads + Wait + Sync, S: Shelf, K: Sink, G: Gate + Sync>(
 ) -> Outcome
     requires queries { (1 ≤ length queries.now) × (length queries.now ≤ 64) }
     requires workers { (1 ≤ workers) × (workers ≤ 16) }
-    ensures ends { Ends (record {
+    ensures ends { MayEndWith (record {
       held = S.held shelf.old;
       shelf_before = S.faults shelf.old;
       shelf_after = S.faults shelf.new;

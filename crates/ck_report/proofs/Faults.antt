@@ -3,15 +3,16 @@ use Rattle.std.proofs.Common.{◌≡◌, ℕ, ◌+◌, ◌<◌, ◌^◌, List, [
 use Rattle.std.specs.declared.cmp.Ordering.{Ordering}
 use Rattle.std.specs.declared.cmp.Ordering.TheVariants.{Less}
 use Rattle.std.proofs.lemmas.List.{length_push}
-use Rattle.ck_script.specs.Text.{IsWord}
+use Rattle.ck_text.specs.Words.{IsWord}
 use Rattle.ck_report.specs.declared.line.ReportLine.{ReportLine}
 use Rattle.ck_report.specs.declared.line.ReportLine.TheVariants.{End}
 use Rattle.ck_report.specs.declared.place.Place.{Place}
 use Rattle.ck_report.specs.declared.place.Place.TheVariants.{AfterUpdate, AfterAnswer, AfterPair, AfterEnd}
 use Rattle.ck_report.specs.Text.{report_text}
-use Rattle.ck_report.specs.Reports.{Parts, text_lines, spread, IsReport, Reads, CanBegin, FailsAfter, IsFirstFault}
-use Rattle.ck_report.specs.Lines.{place_of, CanFollow, Adds, NoneBegins}
-use Rattle.ck_report.proofs.Cutting.{some_lines}
+use Rattle.ck_report.specs.Reports.{Parts, spread, IsReport, Reads, CanBegin, FailsAfter, BreaksAt}
+use Rattle.ck_report.specs.Lines.{place_of, CanFollow, AddsLine, NoneBegins}
+use Rattle.ck_text.specs.Lines.{lines_with_feeds}
+use Rattle.ck_text.proofs.Feeds.{some_lines}
 use Rattle.ck_report.proofs.Runs.{chunk, text_of, last_place, Runs, after, near_last, first_of, lines_of_runs, nothing_left}
 use Rattle.ck_report.proofs.Listing.{text-append, last-append, lists}
 use Rattle.ck_report.proofs.Gathering.{Holds, front_text, end_text, printed, lawful, sorted_none}
@@ -57,7 +58,7 @@ module _ {K : Type 0} (IsKey : K → Type 0) (spelling : K → List ℕ) (cmp : 
     same = rw (replies, files, pairs) refl;
   }
 
-  pub read_more : ((x y z : K) → cmp x y ≡ Less → cmp y z ≡ Less → cmp x z ≡ Less) → (bytes : List ℕ) (number : ℕ) (rest : List ℕ) (place : Place K) (old new : Parts K) (said : ReportLine K) (later : List ℕ) → Read bytes number rest place old → CanFollow IsKey cmp place said → rest ≡ chunk spelling said ++ later → Adds said old new → Read bytes (number + 1) later (place_of said) new
+  pub read_more : ((x y z : K) → cmp x y ≡ Less → cmp y z ≡ Less → cmp x z ≡ Less) → (bytes : List ℕ) (number : ℕ) (rest : List ℕ) (place : Place K) (old new : Parts K) (said : ReportLine K) (later : List ℕ) → Read bytes number rest place old → CanFollow IsKey cmp place said → rest ≡ chunk spelling said ++ later → AddsLine said old new → Read bytes (number + 1) later (place_of said) new
   read_more trans bytes number rest place old new said later read follows cut adds =
       let next = step IsKey spelling cmp trans place said old new read.holds follows adds in
       let follows_here : CanFollow IsKey cmp (last_place start read.lines) said = subst (λ p. CanFollow IsKey cmp p said) (sym read.here) follows in
@@ -89,18 +90,18 @@ module _ {K : Type 0} (IsKey : K → Type 0) (spelling : K → List ℕ) (cmp : 
   lacking AfterEnd front = ([], sym (append-nil (front ++ chunk spelling End)))
 
   -- a text with a fault is no report
-  fails : (text : List ℕ) (before after : List (List ℕ)) → text_lines text ≡ before ++ after → FailsAfter IsKey spelling cmp text before after → IsReport IsKey spelling cmp text → ⊥
+  fails : (text : List ℕ) (before after : List (List ℕ)) → lines_with_feeds text ≡ before ++ after → FailsAfter IsKey spelling cmp text before after → IsReport IsKey spelling cmp text → ⊥
   fails text before [] here faulty report = faulty report
   fails text before (line ∷ later) here faulty report = faulty (record { text = text; report = report; later = later; lines = here ∙ sym (append_assoc before (line ∷ []) later) })
 
-  pub refused : (text : List ℕ) (number : ℕ) → IsFirstFault IsKey spelling cmp text number → IsReport IsKey spelling cmp text → ⊥
+  pub refused : (text : List ℕ) (number : ℕ) → BreaksAt IsKey spelling cmp text number → IsReport IsKey spelling cmp text → ⊥
   refused text number fault report = fails text fault.before fault.after fault.here fault.faulty report
 
   module _ (one_key : (j k : K) → IsKey j → IsKey k → spelling j ≡ spelling k → j ≡ k) (one_word : (k : K) → IsKey k → IsWord (spelling k)) where
     -- the lines that were read
-    cut_so_far : (bytes : List ℕ) (number : ℕ) (rest : List ℕ) (place : Place K) (read : Parts K) (r : Read bytes number rest place read) → number < 2 ^ 64 → text_lines bytes ≡ map (chunk spelling) r.lines ++ text_lines rest
+    cut_so_far : (bytes : List ℕ) (number : ℕ) (rest : List ℕ) (place : Place K) (read : Parts K) (r : Read bytes number rest place read) → number < 2 ^ 64 → lines_with_feeds bytes ≡ map (chunk spelling) r.lines ++ lines_with_feeds rest
     cut_so_far bytes number rest place read r small =
-        ap text_lines r.text ∙ lines_of_runs IsKey spelling cmp one_key one_word 0 start r.lines rest (omega arith) (omega (arith, r.count)) r.runs
+        ap lines_with_feeds r.text ∙ lines_of_runs IsKey spelling cmp one_key one_word 0 start r.lines rest (omega arith) (omega (arith, r.count)) r.runs
 
     -- some report begins with the lines that were read
     begins : (bytes : List ℕ) (number : ℕ) (rest : List ℕ) (place : Place K) (read : Parts K) (r : Read bytes number rest place read) → number < 2 ^ 64 → CanBegin IsKey spelling cmp (map (chunk spelling) r.lines)
@@ -118,12 +119,12 @@ module _ {K : Type 0} (IsKey : K → Type 0) (spelling : K → List ℕ) (cmp : 
             lawful = lawful IsKey spelling cmp place read.replies read.files read.pairs r.holds;
             printed = refl;
           };
-          later = text_lines lack.0;
-          lines = ap text_lines shape ∙ lines_of_runs IsKey spelling cmp one_key one_word 0 start r.lines lack.0 (omega arith) (omega (arith, r.count)) r.runs;
+          later = lines_with_feeds lack.0;
+          lines = ap lines_with_feeds shape ∙ lines_of_runs IsKey spelling cmp one_key one_word 0 start r.lines lack.0 (omega arith) (omega (arith, r.count)) r.runs;
         }
 
     -- a line that may not stand where it stands is the first fault
-    pub first_fault : (bytes : List ℕ) (number : ℕ) (rest : List ℕ) (place : Place K) (read : Parts K) → Read bytes number rest place read → number + 1 < 2 ^ 64 → 0 < length rest → NoneBegins IsKey spelling cmp place rest → IsFirstFault IsKey spelling cmp bytes (number + 1)
+    pub first_fault : (bytes : List ℕ) (number : ℕ) (rest : List ℕ) (place : Place K) (read : Parts K) → Read bytes number rest place read → number + 1 < 2 ^ 64 → 0 < length rest → NoneBegins IsKey spelling cmp place rest → BreaksAt IsKey spelling cmp bytes (number + 1)
     first_fault bytes number rest place read r small some none =
         let first = some_lines rest some in
         let before = map (chunk spelling) r.lines in
@@ -135,7 +136,7 @@ module _ {K : Type 0} (IsKey : K → Type 0) (spelling : K → List ℕ) (cmp : 
           earlier = begins bytes number rest place read r (omega arith);
           faulty = λ begun.
               let listed = lists IsKey cmp spelling begun.text begun.report in
-              let e : text_lines (text_of spelling listed.lines) ≡ before ++ (first.0 ∷ begun.later) = ap text_lines (sym listed.printed) ∙ (begun.lines ∙ append_assoc before (first.0 ∷ []) begun.later) in
+              let e : lines_with_feeds (text_of spelling listed.lines) ≡ before ++ (first.0 ∷ begun.later) = ap lines_with_feeds (sym listed.printed) ∙ (begun.lines ∙ append_assoc before (first.0 ∷ []) begun.later) in
               let left = after IsKey spelling cmp one_key one_word 0 start r.lines listed.lines (first.0 ∷ begun.later) (omega arith) (omega (arith, r.count)) r.runs listed.runs e in
               let near = near_last IsKey spelling cmp one_key one_word 0 start r.lines (omega arith) r.runs in
               let next = first_of IsKey spelling cmp one_key one_word (0 + length r.lines) (last_place start r.lines) left.rest first.0 begun.later near (omega (arith, r.count)) left.runs left.lines in
@@ -143,7 +144,7 @@ module _ {K : Type 0} (IsKey : K → Type 0) (spelling : K → List ℕ) (cmp : 
         }
 
     -- a text that stops before the report does lacks a line
-    pub stops_early : (bytes : List ℕ) (number : ℕ) (rest : List ℕ) (place : Place K) (read : Parts K) → Read bytes number rest place read → length rest ≡ 0 → number + 1 < 2 ^ 64 → (place ≡ AfterEnd → ⊥) → IsFirstFault IsKey spelling cmp bytes (number + 1)
+    pub stops_early : (bytes : List ℕ) (number : ℕ) (rest : List ℕ) (place : Place K) (read : Parts K) → Read bytes number rest place read → length rest ≡ 0 → number + 1 < 2 ^ 64 → (place ≡ AfterEnd → ⊥) → BreaksAt IsKey spelling cmp bytes (number + 1)
     stops_early bytes number (b ∷ rest) place read r none small early = absurd (omega arith)
     stops_early bytes number [] place read r none small early =
         let before = map (chunk spelling) r.lines in
@@ -156,7 +157,7 @@ module _ {K : Type 0} (IsKey : K → Type 0) (spelling : K → List ℕ) (cmp : 
           earlier = begins bytes number [] place read r (omega arith);
           faulty = λ report.
               let listed = lists IsKey cmp spelling bytes report in
-              let e : text_lines (text_of spelling listed.lines) ≡ before ++ [] = ap text_lines (sym listed.printed) ∙ here in
+              let e : lines_with_feeds (text_of spelling listed.lines) ≡ before ++ [] = ap lines_with_feeds (sym listed.printed) ∙ here in
               let left = after IsKey spelling cmp one_key one_word 0 start r.lines listed.lines [] (omega arith) (omega (arith, r.count)) r.runs listed.runs e in
               let near = near_last IsKey spelling cmp one_key one_word 0 start r.lines (omega arith) r.runs in
               let over = nothing_left IsKey spelling cmp one_key one_word (0 + length r.lines) (last_place start r.lines) left.rest near (omega (arith, r.count)) left.runs left.lines in

@@ -2,12 +2,13 @@
 use Rattle.std.proofs.Common.{◌≡◌, ℕ, ◌<◌, List, [], ◌∷◌, ◌++◌, length, ap, sym, ◌∙◌, subst}
 use Rattle.std.specs.declared.cmp.Ordering.{Ordering}
 use Rattle.std.specs.List.{join_with_byte}
-use Rattle.ck_script.specs.Text.{parts, words, IsWord}
+use Rattle.ck_text.specs.Lines.{parts, lines_with_feeds}
+use Rattle.ck_text.specs.Words.{words, IsWord}
+use Rattle.ck_text.proofs.Words.{joined_lacks_feed, joined_words}
+use Rattle.ck_text.proofs.Feeds.{not_fed, lines_with_feeds_alone, lines_with_feeds_cut, cut_here}
 use Rattle.ck_report.specs.declared.line.ReportLine.{ReportLine}
 use Rattle.ck_report.specs.declared.place.Place.{Place}
-use Rattle.ck_report.specs.Reports.{text_lines}
 use Rattle.ck_report.specs.Lines.{place_of, Next, IsTaken, IsShort, line_words, CanFollow, NoneBegins}
-use Rattle.ck_report.proofs.Cutting.{not_fed, text_lines_alone, text_lines_cut, joined_lacks_feed, joined_words, cut_here}
 use Rattle.ck_report.proofs.Runs.{chunk, line_are_words, taken_words, same_place}
 
 -- the line stands at the head of the text
@@ -20,14 +21,14 @@ module _ {K : Type 0} (IsKey : K → Type 0) (spelling : K → List ℕ) (cmp : 
   pub none_unfed : (place : Place K) (text : List ℕ) → parts 10 text ≡ text ∷ [] → 0 < length text → NoneBegins IsKey spelling cmp place text
   none_unfed place text one some said later follows e =
       let ws = line_words spelling said in
-      let both : text ∷ [] ≡ chunk spelling said ∷ later = sym (text_lines_alone text one some) ∙ e in
+      let both : text ∷ [] ≡ chunk spelling said ∷ later = sym (lines_with_feeds_alone text one some) ∙ e in
       let same : text ≡ chunk spelling said = cc in
       not_fed text (join_with_byte 32 ws) one (joined_lacks_feed ws (line_are_words IsKey spelling cmp one_key one_word said follows.taken follows.short)) same
 
   -- a line that says nothing that may stand there
   pub none_said : (place : Place K) (text bytes rest : List ℕ) → parts 10 text ≡ bytes ∷ parts 10 rest → ((said : ReportLine K) → CanFollow IsKey cmp place said → words bytes ≡ line_words spelling said → ⊥) → NoneBegins IsKey spelling cmp place text
   none_said place text bytes rest cut none said later follows e =
-      let both : (bytes ++ 10 ∷ []) ∷ text_lines rest ≡ chunk spelling said ∷ later = sym (text_lines_cut text bytes rest cut) ∙ e in
+      let both : (bytes ++ 10 ∷ []) ∷ lines_with_feeds rest ≡ chunk spelling said ∷ later = sym (lines_with_feeds_cut text bytes rest cut) ∙ e in
       let same : bytes ++ 10 ∷ [] ≡ chunk spelling said = cc in
       none said follows (taken_words IsKey spelling cmp one_key one_word said bytes follows.taken follows.short same)
 

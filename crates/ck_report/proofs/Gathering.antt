@@ -12,7 +12,7 @@ use Rattle.ck_report.specs.declared.place.Place.{Place}
 use Rattle.ck_report.specs.declared.place.Place.TheVariants.{AfterUpdate, AfterAnswer, AfterPair, AfterEnd}
 use Rattle.ck_report.specs.Text.{reply_lines, answer_lines, file_lines, pair_lines, report_text}
 use Rattle.ck_report.specs.Reports.{IsReply, IsAnswer, IsPair, AreLawful, spread, AreNamed}
-use Rattle.ck_report.proofs.Cutting.{All-append}
+use Rattle.ck_text.proofs.Cutting.{All-append}
 use Rattle.ck_report.proofs.Runs.{chunk}
 
 -- lists and their last items

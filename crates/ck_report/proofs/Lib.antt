@@ -1,4 +1,3 @@
-pub mod Cutting
 pub mod Words
 pub mod Runs
 pub mod Listing

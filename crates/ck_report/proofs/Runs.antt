@@ -1,22 +1,22 @@
 -- Lists of lines, each of which may follow the one before it.
-use Rattle.std.proofs.Common.{◌≡◌, ℕ, ◌+◌, ◌<◌, ◌≤◌, ◌^◌, inl, inr, Bool, true, ◌&&◌, ltb, Option, Some, None, List, [], ◌∷◌, ◌++◌, length, map, refl, ap, arith, sym, ◌∙◌, subst, append_assoc, codes, decimal, lit≤}
+use Rattle.std.proofs.Common.{◌≡◌, ℕ, ◌+◌, ◌<◌, ◌≤◌, ◌^◌, inl, inr, Option, Some, None, List, [], ◌∷◌, ◌++◌, length, map, refl, ap, arith, sym, ◌∙◌, subst, append_assoc, codes, decimal}
 use Rattle.std.specs.declared.cmp.Ordering.{Ordering}
 use Rattle.std.specs.List.{AllByRecursion, join_with_byte}
-use Rattle.std.proofs.lemmas.Bool.{ltb-true, and_parts}
 use Rattle.std.proofs.lemmas.Fmt.{decimal_injective}
 use Rattle.ck_history.specs.declared.update.Reply.{Reply}
 use Rattle.ck_history.specs.declared.update.Reply.TheVariants.{Fresh, Was, Has, Missing, Tidied, Full}
-use Rattle.ck_script.specs.Text.{words, IsWord}
-use Rattle.ck_script.specs.Keys.{decimal_one_word}
+use Rattle.ck_text.specs.Words.{line, words, IsWord, first_byte}
+use Rattle.ck_text.specs.Lines.{lines_with_feeds}
+use Rattle.ck_text.specs.Laws.{number_one_word}
 use Rattle.ck_report.specs.declared.line.ReportLine.{ReportLine}
 use Rattle.ck_report.specs.declared.line.ReportLine.TheVariants.{Update, Answer, Pair, End}
 use Rattle.ck_report.specs.declared.place.Place.{Place}
 use Rattle.ck_report.specs.declared.place.Place.TheVariants.{AfterUpdate, AfterAnswer, AfterPair, AfterEnd}
-use Rattle.ck_report.specs.Text.{line, reply_words, found_words}
-use Rattle.ck_report.specs.Reports.{text_lines, IsReply, IsFound}
+use Rattle.ck_report.specs.Text.{reply_words, found_words}
+use Rattle.ck_report.specs.Reports.{IsReply, IsFound}
 use Rattle.ck_report.specs.Lines.{place_of, IsShort, IsTaken, Next, line_words, CanFollow}
-use Rattle.ck_report.proofs.Words.{first_byte}
-use Rattle.ck_report.proofs.Cutting.{words_joined, joined_lacks_feed, text_lines_first, same_before}
+use Rattle.ck_text.proofs.Words.{words_joined, joined_lacks_feed, word_from}
+use Rattle.ck_text.proofs.Feeds.{lines_with_feeds_first, same_before}
 
 -- the bytes of a line
 abbrev pub chunk : {K : Type 0} → (K → List ℕ) → ReportLine K → List ℕ
@@ -63,38 +63,23 @@ near_short n (Answer f i asked) near small = (omega arith, omega arith)
 near_short n (Pair key v) near small = tt
 near_short n End near small = tt
 
--- a word of bytes above a space, by a test
-abbrev is_word : List ℕ → Bool
-is_word [] = true
-is_word (b ∷ w) = ltb 32 b && is_word w
-
-word_from : (w : List ℕ) → is_word w ≡ true → IsWord w
-word_from [] e = tt
-word_from (b ∷ w) e =
-    let both = and_parts (ltb 32 b) (is_word w) e in
-    let above : 32 < b = ltb-true 32 b both.0 in
-    ((λ e. omega arith, λ e. omega arith), word_from w both.1)
-
-number_word : (n : ℕ) → n < 2 ^ 64 → IsWord (decimal n)
-number_word n small = let le : 2 ^ 64 ≤ 2 ^ 128 = lit≤ tt in decimal_one_word n (omega arith)
-
 reply_are_words : (r : Reply) → IsReply r → AllByRecursion IsWord (reply_words r)
 reply_are_words Fresh fits = (word_from (codes "fresh") refl, tt)
-reply_are_words (Was v) fits = (word_from (codes "was") refl, (number_word v fits, tt))
-reply_are_words (Has v) fits = (word_from (codes "has") refl, (number_word v fits, tt))
+reply_are_words (Was v) fits = (word_from (codes "was") refl, (number_one_word v fits, tt))
+reply_are_words (Has v) fits = (word_from (codes "has") refl, (number_one_word v fits, tt))
 reply_are_words Missing fits = (word_from (codes "missing") refl, tt)
 reply_are_words Tidied fits = (word_from (codes "tidied") refl, tt)
 reply_are_words Full fits = (word_from (codes "full") refl, tt)
 
 found_are_words : (f : Option ℕ) → IsFound f → AllByRecursion IsWord (found_words f)
-found_are_words (Some v) fits = (word_from (codes "=") refl, (number_word v fits, tt))
+found_are_words (Some v) fits = (word_from (codes "=") refl, (number_one_word v fits, tt))
 found_are_words None fits = (word_from (codes "absent") refl, tt)
 
 module _ {K : Type 0} (IsKey : K → Type 0) (spelling : K → List ℕ) (cmp : K → K → Ordering) (one_key : (j k : K) → IsKey j → IsKey k → spelling j ≡ spelling k → j ≡ k) (one_word : (k : K) → IsKey k → IsWord (spelling k)) where
   pub line_are_words : (said : ReportLine K) → IsTaken IsKey said → IsShort said → AllByRecursion IsWord (line_words spelling said)
-  line_are_words (Update i reply) taken short = (word_from (codes "u") refl, (number_word i short, reply_are_words reply taken))
-  line_are_words (Answer f i asked) taken short = (word_from (codes "q") refl, (number_word f short.0, (number_word i short.1, (one_word asked.key taken.0, found_are_words asked.found taken.1))))
-  line_are_words (Pair key v) taken short = (word_from (codes "t") refl, (one_word key taken.0, (word_from (codes "=") refl, (number_word v taken.1, tt))))
+  line_are_words (Update i reply) taken short = (word_from (codes "u") refl, (number_one_word i short, reply_are_words reply taken))
+  line_are_words (Answer f i asked) taken short = (word_from (codes "q") refl, (number_one_word f short.0, (number_one_word i short.1, (one_word asked.key taken.0, found_are_words asked.found taken.1))))
+  line_are_words (Pair key v) taken short = (word_from (codes "t") refl, (one_word key taken.0, (word_from (codes "=") refl, (number_one_word v taken.1, tt))))
   line_are_words End taken short = (word_from (codes "end") refl, tt)
 
   some_words : (said : ReportLine K) → 0 < length (line_words spelling said)
@@ -126,12 +111,12 @@ module _ {K : Type 0} (IsKey : K → Type 0) (spelling : K → List ℕ) (cmp : 
   same_place End End ti tj si sj e = refl
 
   -- a line is cut at its line feed
-  pub first_line : (said : ReportLine K) (rest : List ℕ) → IsTaken IsKey said → IsShort said → text_lines (chunk spelling said ++ rest) ≡ chunk spelling said ∷ text_lines rest
+  pub first_line : (said : ReportLine K) (rest : List ℕ) → IsTaken IsKey said → IsShort said → lines_with_feeds (chunk spelling said ++ rest) ≡ chunk spelling said ∷ lines_with_feeds rest
   first_line said rest taken short =
       let ws = line_words spelling said in
       let joined = join_with_byte 32 ws in
       let apart : (joined ++ 10 ∷ []) ++ rest ≡ joined ++ 10 ∷ rest = append_assoc joined (10 ∷ []) rest in
-      ap text_lines apart ∙ text_lines_first joined rest (joined_lacks_feed ws (line_are_words said taken short))
+      ap lines_with_feeds apart ∙ lines_with_feeds_first joined rest (joined_lacks_feed ws (line_are_words said taken short))
 
   -- the words of a line that is taken
   pub taken_words : (said : ReportLine K) (bytes : List ℕ) → IsTaken IsKey said → IsShort said → bytes ++ 10 ∷ [] ≡ chunk spelling said → words bytes ≡ line_words spelling said
@@ -148,10 +133,10 @@ module _ {K : Type 0} (IsKey : K → Type 0) (spelling : K → List ℕ) (cmp : 
   pub record After (p : Place K) (ls ms : List (ReportLine K)) (tail : List (List ℕ)) : Type 0 where
     pub rest : List (ReportLine K)
     pub runs : Runs IsKey cmp (last_place p ls) rest
-    pub lines : text_lines (text_of spelling rest) ≡ tail
+    pub lines : lines_with_feeds (text_of spelling rest) ≡ tail
     pub last : last_place p ms ≡ last_place (last_place p ls) rest
 
-  pub after : (n : ℕ) (p : Place K) (ls ms : List (ReportLine K)) (tail : List (List ℕ)) → IsNear n p → n + length ls < 2 ^ 64 → Runs IsKey cmp p ls → Runs IsKey cmp p ms → text_lines (text_of spelling ms) ≡ map (chunk spelling) ls ++ tail → After p ls ms tail
+  pub after : (n : ℕ) (p : Place K) (ls ms : List (ReportLine K)) (tail : List (List ℕ)) → IsNear n p → n + length ls < 2 ^ 64 → Runs IsKey cmp p ls → Runs IsKey cmp p ms → lines_with_feeds (text_of spelling ms) ≡ map (chunk spelling) ls ++ tail → After p ls ms tail
   after n p [] ms tail near small hl hm e = record { rest = ms; runs = hm; lines = e; last = refl }
   after n p (l ∷ ls) [] tail near small hl hm e = absurd (cc)
   after n p (l ∷ ls) (m ∷ ms) tail near small hl hm e =
@@ -159,9 +144,9 @@ module _ {K : Type 0} (IsKey : K → Type 0) (spelling : K → List ℕ) (cmp : 
       let near_m = near_next cmp n p (place_of m) near hm.0 in
       let short_l = near_short (n + 1) l near_l (omega arith) in
       let short_m = near_short (n + 1) m near_m (omega arith) in
-      let both : chunk spelling m ∷ text_lines (text_of spelling ms) ≡ chunk spelling l ∷ (map (chunk spelling) ls ++ tail) = sym (first_line m (text_of spelling ms) hm.1 short_m) ∙ e in
+      let both : chunk spelling m ∷ lines_with_feeds (text_of spelling ms) ≡ chunk spelling l ∷ (map (chunk spelling) ls ++ tail) = sym (first_line m (text_of spelling ms) hm.1 short_m) ∙ e in
       let heads : chunk spelling m ≡ chunk spelling l = cc in
-      let tails : text_lines (text_of spelling ms) ≡ map (chunk spelling) ls ++ tail = cc in
+      let tails : lines_with_feeds (text_of spelling ms) ≡ map (chunk spelling) ls ++ tail = cc in
       let place : place_of m ≡ place_of l = same_place m l hm.1 hl.1 short_m short_l (same_words m l hm.1 hl.1 short_m short_l heads) in
       let later = after (n + 1) (place_of l) ls ms tail near_l (omega arith) hl.2 (subst (λ q. Runs IsKey cmp q ms) place hm.2) tails in
       record { rest = later.rest; runs = later.runs; lines = later.lines; last = ap (λ q. last_place q ms) place ∙ later.last }
@@ -173,27 +158,27 @@ module _ {K : Type 0} (IsKey : K → Type 0) (spelling : K → List ℕ) (cmp : 
       subst (λ m. IsNear m (last_place (place_of l) ls)) (omega arith) later
 
   -- the first line of a list, by its bytes
-  pub first_of : (n : ℕ) (p : Place K) (ms : List (ReportLine K)) (x : List ℕ) (later : List (List ℕ)) → IsNear n p → n + 1 < 2 ^ 64 → Runs IsKey cmp p ms → text_lines (text_of spelling ms) ≡ x ∷ later → (said : ReportLine K) × CanFollow IsKey cmp p said × (x ≡ chunk spelling said)
+  pub first_of : (n : ℕ) (p : Place K) (ms : List (ReportLine K)) (x : List ℕ) (later : List (List ℕ)) → IsNear n p → n + 1 < 2 ^ 64 → Runs IsKey cmp p ms → lines_with_feeds (text_of spelling ms) ≡ x ∷ later → (said : ReportLine K) × CanFollow IsKey cmp p said × (x ≡ chunk spelling said)
   first_of n p [] x later near small runs e = absurd (cc)
   first_of n p (m ∷ ms) x later near small runs e =
       let short = near_short (n + 1) m (near_next cmp n p (place_of m) near runs.0) small in
-      let same : chunk spelling m ∷ text_lines (text_of spelling ms) ≡ x ∷ later = sym (first_line m (text_of spelling ms) runs.1 short) ∙ e in
+      let same : chunk spelling m ∷ lines_with_feeds (text_of spelling ms) ≡ x ∷ later = sym (first_line m (text_of spelling ms) runs.1 short) ∙ e in
       (m, record { taken = runs.1; short = short; next = runs.0 }, cc)
 
   -- lines are cut as they are
-  pub lines_of_runs : (n : ℕ) (p : Place K) (ls : List (ReportLine K)) (rest : List ℕ) → IsNear n p → n + length ls < 2 ^ 64 → Runs IsKey cmp p ls → text_lines (text_of spelling ls ++ rest) ≡ map (chunk spelling) ls ++ text_lines rest
+  pub lines_of_runs : (n : ℕ) (p : Place K) (ls : List (ReportLine K)) (rest : List ℕ) → IsNear n p → n + length ls < 2 ^ 64 → Runs IsKey cmp p ls → lines_with_feeds (text_of spelling ls ++ rest) ≡ map (chunk spelling) ls ++ lines_with_feeds rest
   lines_of_runs n p [] rest near small runs = refl
   lines_of_runs n p (l ∷ ls) rest near small runs =
       let near_l = near_next cmp n p (place_of l) near runs.0 in
       let short = near_short (n + 1) l near_l (omega arith) in
-      ap text_lines (append_assoc (chunk spelling l) (text_of spelling ls) rest)
+      ap lines_with_feeds (append_assoc (chunk spelling l) (text_of spelling ls) rest)
       ∙ (first_line l (text_of spelling ls ++ rest) runs.1 short
       ∙ ap (λ more. chunk spelling l ∷ more) (lines_of_runs (n + 1) (place_of l) ls rest near_l (omega arith) runs.2))
 
   -- a list with no bytes is empty
-  pub nothing_left : (n : ℕ) (p : Place K) (ms : List (ReportLine K)) → IsNear n p → n + 1 < 2 ^ 64 → Runs IsKey cmp p ms → text_lines (text_of spelling ms) ≡ [] → last_place p ms ≡ p
+  pub nothing_left : (n : ℕ) (p : Place K) (ms : List (ReportLine K)) → IsNear n p → n + 1 < 2 ^ 64 → Runs IsKey cmp p ms → lines_with_feeds (text_of spelling ms) ≡ [] → last_place p ms ≡ p
   nothing_left n p [] near small runs e = refl
   nothing_left n p (m ∷ ms) near small runs e =
       let short = near_short (n + 1) m (near_next cmp n p (place_of m) near runs.0) small in
-      let same : chunk spelling m ∷ text_lines (text_of spelling ms) ≡ [] = sym (first_line m (text_of spelling ms) runs.1 short) ∙ e in
+      let same : chunk spelling m ∷ lines_with_feeds (text_of spelling ms) ≡ [] = sym (first_line m (text_of spelling ms) runs.1 short) ∙ e in
       absurd (cc)

@@ -4,7 +4,7 @@ use Rattle.ck_history.specs.declared.update.Reply.{Reply}
 use Rattle.ck_history.specs.declared.update.Reply.TheVariants.{Fresh, Was, Has, Missing, Tidied, Full}
 use Rattle.ck_report.specs.Text.{reply_words, found_words}
 use Rattle.ck_report.specs.Reports.{IsReply, IsFound, IsAnswer}
-use Rattle.ck_script.specs.Text.{words}
+use Rattle.ck_text.specs.Words.{words, first_byte}
 use Rattle.ck_report.specs.declared.asked.Asked.{Asked}
 use Rattle.ck_report.specs.declared.line.ReportLine.{ReportLine}
 use Rattle.ck_report.specs.declared.line.ReportLine.TheVariants.{Update, Answer, Pair, End}
@@ -13,12 +13,6 @@ use Rattle.ck_report.specs.Lines.{IsRead, IsTaken, IsShort, line_words}
 -- nothing is read
 pub none_read : {A : Type 0} (Fits : A → Type 0) (spelling : A → List (List ℕ)) (text : List ℕ) (read : Option A) → read ≡ None → ((a : A) → Fits a → words text ≡ spelling a → ⊥) → IsRead Fits spelling text read
 none_read Fits spelling text read is none = rw is none
-
--- where a line's words begin
-abbrev pub first_byte : List (List ℕ) → ℕ
-first_byte [] = 0
-first_byte ([] ∷ ws) = 0
-first_byte ((b ∷ w) ∷ ws) = b
 
 module _ {K : Type 0} (IsKey : K → Type 0) (spelling : K → List ℕ) where
   -- the line of an update, by its first word

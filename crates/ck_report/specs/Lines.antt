@@ -2,14 +2,15 @@
 use Rattle.std.specs.Prelude.{◌≡◌, ◌≢◌, ℕ, ◌+◌, ◌<◌, ◌≤◌, ◌^◌, ◌⊎◌, List, [], ◌∷◌, ◌++◌, Option, MatchOption, codes, decimal}
 use Rattle.std.specs.declared.cmp.Ordering.{Ordering}
 use Rattle.std.specs.declared.cmp.Ordering.TheVariants.{Less}
-use Rattle.ck_script.specs.Text.{words}
+use Rattle.ck_text.specs.Lines.{lines_with_feeds}
+use Rattle.ck_text.specs.Words.{line, words}
 use Rattle.ck_report.specs.declared.asked.Asked.{Asked}
 use Rattle.ck_report.specs.declared.line.ReportLine.{ReportLine}
 use Rattle.ck_report.specs.declared.line.ReportLine.TheVariants.{Update, Answer, Pair, End}
 use Rattle.ck_report.specs.declared.place.Place.{Place}
 use Rattle.ck_report.specs.declared.place.Place.TheVariants.{AfterUpdate, AfterAnswer, AfterPair, AfterEnd}
-use Rattle.ck_report.specs.Text.{line, reply_words, found_words}
-use Rattle.ck_report.specs.Reports.{IsReply, IsAnswer, Parts, text_lines}
+use Rattle.ck_report.specs.Text.{reply_words, found_words}
+use Rattle.ck_report.specs.Reports.{IsReply, IsAnswer, Parts}
 
 -- where a report stands after a line
 abbrev pub place_of : {K : Type 0} → ReportLine K → Place K
@@ -66,15 +67,15 @@ pub record AddsAnswer {K : Type 0} (f i : ℕ) (asked : Asked K) (old new : List
   pub later : i ≢ 1 → (front : List (ℕ × List (Asked K))) (g : ℕ) (answers : List (Asked K)) → old ≡ front ++ (g, answers) ∷ [] → new ≡ front ++ (g, answers ++ asked ∷ []) ∷ []
 
 -- the parts with what the line says
-abbrev pub Adds : {K : Type 0} → ReportLine K → Parts K → Parts K → Type 0
-Adds (Update i reply) old new = (new.replies ≡ old.replies ++ reply ∷ []) × (new.files ≡ old.files) × (new.pairs ≡ old.pairs)
-Adds (Answer f i asked) old new = (new.replies ≡ old.replies) × AddsAnswer f i asked old.files new.files × (new.pairs ≡ old.pairs)
-Adds (Pair key v) old new = (new.replies ≡ old.replies) × (new.files ≡ old.files) × (new.pairs ≡ old.pairs ++ (key, v) ∷ [])
-Adds End old new = (new.replies ≡ old.replies) × (new.files ≡ old.files) × (new.pairs ≡ old.pairs)
+abbrev pub AddsLine : {K : Type 0} → ReportLine K → Parts K → Parts K → Type 0
+AddsLine (Update i reply) old new = (new.replies ≡ old.replies ++ reply ∷ []) × (new.files ≡ old.files) × (new.pairs ≡ old.pairs)
+AddsLine (Answer f i asked) old new = (new.replies ≡ old.replies) × AddsAnswer f i asked old.files new.files × (new.pairs ≡ old.pairs)
+AddsLine (Pair key v) old new = (new.replies ≡ old.replies) × (new.files ≡ old.files) × (new.pairs ≡ old.pairs ++ (key, v) ∷ [])
+AddsLine End old new = (new.replies ≡ old.replies) × (new.files ≡ old.files) × (new.pairs ≡ old.pairs)
 
 -- no line that may stand at this place begins the text
 abbrev pub NoneBegins : {K : Type 0} → (K → Type 0) → (K → List ℕ) → (K → K → Ordering) → Place K → List ℕ → Type 0
-NoneBegins {K} IsKey spelling cmp place text = (said : ReportLine K) (later : List (List ℕ)) → CanFollow IsKey cmp place said → text_lines text ≡ line (line_words spelling said) ∷ later → ⊥
+NoneBegins {K} IsKey spelling cmp place text = (said : ReportLine K) (later : List (List ℕ)) → CanFollow IsKey cmp place said → lines_with_feeds text ≡ line (line_words spelling said) ∷ later → ⊥
 
 -- what was read of the text's words: what spells them, and nothing only where nothing that fits does
 abbrev pub IsRead : {A : Type 0} → (A → Type 0) → (A → List (List ℕ)) → List ℕ → Option A → Type 0

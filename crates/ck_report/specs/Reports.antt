@@ -6,7 +6,7 @@ use Rattle.std.specs.List.Sorted.{IsStrictlySortedBy}
 use Rattle.std.specs.Map.{keys_of}
 use Rattle.ck_history.specs.declared.update.Reply.{Reply}
 use Rattle.ck_history.specs.declared.update.Reply.TheVariants.{Fresh, Was, Has, Missing, Tidied, Full}
-use Rattle.ck_script.specs.Text.{parts}
+use Rattle.ck_text.specs.Lines.{lines_with_feeds}
 use Rattle.ck_report.specs.declared.asked.Asked.{Asked}
 use Rattle.ck_report.specs.declared.map_report.MapReport.{MapReport}
 use Rattle.ck_report.specs.declared.map_report.ReportError.{ReportError}
@@ -26,21 +26,6 @@ IsReply Full = Unit {0}
 abbrev pub IsFound : Option ℕ → Type 0
 IsFound (Some v) = v < 2 ^ 64
 IsFound None = Unit {0}
-
--- bytes with no line feed are a line, if there are any
-abbrev pub unended : List ℕ → List (List ℕ)
-unended [] = []
-unended (b ∷ bytes) = (b ∷ bytes) ∷ []
-
--- each part but the last was ended by a line feed
-abbrev pub ended : List (List ℕ) → List (List ℕ)
-ended [] = []
-ended (last ∷ []) = unended last
-ended (line ∷ next ∷ more) = (line ++ 10 ∷ []) ∷ ended (next ∷ more)
-
--- the lines of a text, each with its line feed; bytes after the last line feed are a last line that has none
-abbrev pub text_lines : List ℕ → List (List ℕ)
-text_lines text = ended (parts 10 text)
 
 -- the answers of each file from f on: of those that are named theirs, of the files between them none
 abbrev pub spread : {K : Type 0} → ℕ → List (ℕ × List (Asked K)) → List (List (Asked K))
@@ -101,23 +86,23 @@ module _ {K : Type 0} (IsKey : K → Type 0) (spelling : K → List ℕ) (cmp : 
     pub text : List ℕ
     pub report : IsReport text
     pub later : List (List ℕ)
-    pub lines : text_lines text ≡ front ++ later
+    pub lines : lines_with_feeds text ≡ front ++ later
 
   -- after the first of these lines, the next is one that no report has there; where there is no next, the text stops early
   abbrev pub FailsAfter : List ℕ → List (List ℕ) → List (List ℕ) → Type 0
   FailsAfter text before [] = IsReport text → ⊥
   FailsAfter text before (line ∷ later) = CanBegin (before ++ line ∷ []) → ⊥
 
-  -- this is the number of the first line that no report with the same earlier lines has, or of the line that the text lacks
-  pub record IsFirstFault (text : List ℕ) (number : ℕ) : Type 0 where
+  -- at the line of this number the text is the front of a report no longer: no report with the same earlier lines has it, or the text lacks it
+  pub record BreaksAt (text : List ℕ) (number : ℕ) : Type 0 where
     pub before : List (List ℕ)
     pub after : List (List ℕ)
-    pub here : text_lines text ≡ before ++ after
+    pub here : lines_with_feeds text ≡ before ++ after
     pub counted : number ≡ length before + 1
     pub earlier : CanBegin before
     pub faulty : FailsAfter text before after
 
--- the fact, where the report wasn't refused for want of memory
-abbrev pub IfFault : ReportError → (ℕ → Type 0) → Type 0
-IfFault (Fault line) P = P line
-IfFault Memory P = Unit {0}
+-- the fact of the line of the fault, where the report wasn't refused for want of memory
+abbrev pub IfFaultLine : ReportError → (ℕ → Type 0) → Type 0
+IfFaultLine (Fault line) P = P line
+IfFaultLine Memory P = Unit {0}

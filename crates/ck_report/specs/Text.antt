@@ -1,13 +1,9 @@
 -- The text of a report, line by line.
 use Rattle.std.specs.Prelude.{ℕ, ◌+◌, List, [], ◌∷◌, ◌++◌, Option, Some, None, codes, decimal}
-use Rattle.std.specs.List.{join_with_byte}
 use Rattle.ck_history.specs.declared.update.Reply.{Reply}
 use Rattle.ck_history.specs.declared.update.Reply.TheVariants.{Fresh, Was, Has, Missing, Tidied, Full}
+use Rattle.ck_text.specs.Words.{line}
 use Rattle.ck_report.specs.declared.asked.Asked.{Asked}
-
--- the words joined by single spaces, and a line feed
-abbrev pub line : List (List ℕ) → List ℕ
-line words = join_with_byte 32 words ++ 10 ∷ []
 
 -- what a reply is called
 abbrev pub reply_words : Reply → List (List ℕ)

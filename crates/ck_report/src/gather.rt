@@ -1,6 +1,6 @@
 ghost use Rattle.std.specs.Prelude.{◌≡◌, map, OnOk, IfErr};
 ghost use Rattle.ck_report.specs.Reports.{parts_of};
-ghost use Rattle.ck_report.specs.Lines.{Adds, AddsAnswer};
+ghost use Rattle.ck_report.specs.Lines.{AddsLine, AddsAnswer};
 ghost use Rattle.ck_report.specs.declared.map_report.ReportError.TheVariants.{Memory};
 
 use crate::asked::Asked;
@@ -14,7 +14,7 @@ pub fn add<K: Copy>(
     report: &mut MapReport<K>,
     said: ReportLine<K>,
 ) -> Result<(), ReportError>
-    ensures ok { OnOk result (Adds said (parts_of report.old) (parts_of report.new)) }
+    ensures ok { OnOk result (AddsLine said (parts_of report.old) (parts_of report.new)) }
     ensures err { IfErr result (λ error. error ≡ Memory) }
 {
     match said {

@@ -1,10 +1,12 @@
 ghost use Rattle.std.specs.Prelude.{◌≡◌, ◌<◌, ◌≤◌, ◌^◌, ◌+◌, [], ◌∷◌, ◌++◌, IfOk, OnOk, OnErr, map, length, drop, codes, decimal};
-ghost use Rattle.ck_report.specs.Text.{report_text, line, reply_words, reply_lines, answer_lines, file_lines, found_words, pair_lines};
+ghost use Rattle.ck_report.specs.Text.{report_text, reply_words, reply_lines, answer_lines, file_lines, found_words, pair_lines};
+ghost use Rattle.ck_text.specs.Words.{line};
 ghost use Rattle.ck_report.specs.Tails.{value_tail, reply_tail, found_tail};
 
 use crate::asked::Asked;
 use ck_history::Reply;
-use ck_script::{KeyWord, prepend_bytes, prepend_number};
+use ck_script::KeyWord;
+use ck_text::{prepend_bytes, prepend_number};
 use std::alloc::{AllocError, Global};
 
 /// The text of a report: the replies, the answers of each query file, and the pairs at the end.

@@ -1,6 +1,6 @@
 ghost use Rattle.std.specs.Prelude.{◌≡◌, ◌<◌, ◌++◌, MatchOption, IfOk, IfErr, OnOk, length};
-ghost use Rattle.ck_report.specs.Text.{line};
-ghost use Rattle.ck_report.specs.Reports.{Reads, IsReport, IsFirstFault, IfFault, parts_of};
+ghost use Rattle.ck_text.specs.Words.{line};
+ghost use Rattle.ck_report.specs.Reports.{Reads, IsReport, BreaksAt, IfFaultLine, parts_of};
 ghost use Rattle.ck_report.specs.Lines.{CanFollow, NoneBegins, IsRead, line_words};
 
 use crate::gather::add;
@@ -8,7 +8,8 @@ use crate::line::ReportLine;
 use crate::map_report::{MapReport, ReportError};
 use crate::place::Place;
 use crate::read_line::read_line;
-use ck_script::{KeyWord, cut};
+use ck_script::KeyWord;
+use ck_text::cut;
 use std::alloc::Global;
 
 /// The parts of a map report. What `report_map` prints of them, with an empty list for each file below the last one that
@@ -18,8 +19,8 @@ pub fn read_map_report<K: KeyWord + Ord>(
     bytes: &[u8],
 ) -> Result<MapReport<K>, ReportError>
     ensures read { IfOk result (λ report. Reads K.is_key K.spelling K.cmp bytes.now (parts_of report)) }
-    ensures fault { IfErr result (λ error. IfFault error (IsFirstFault K.is_key K.spelling K.cmp bytes.now)) }
-    ensures refused { IfErr result (λ error. IfFault error (λ _. IsReport K.is_key K.spelling K.cmp bytes.now → ⊥)) }
+    ensures fault { IfErr result (λ error. IfFaultLine error (BreaksAt K.is_key K.spelling K.cmp bytes.now)) }
+    ensures refused { IfErr result (λ error. IfFaultLine error (λ _. IsReport K.is_key K.spelling K.cmp bytes.now → ⊥)) }
 {
     let mut report = MapReport {
         replies: Vec::new(alloc),

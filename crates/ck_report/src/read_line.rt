@@ -1,6 +1,6 @@
 ghost use Rattle.std.specs.Prelude.{◌≡◌, ◌<◌, ◌^◌, ℕ, [], ◌∷◌, length, codes, decimal, MatchOption};
 ghost use Rattle.ck_history.specs.declared.update.Reply.{Reply};
-ghost use Rattle.ck_script.specs.Text.{words};
+ghost use Rattle.ck_text.specs.Words.{words};
 ghost use Rattle.ck_report.specs.Text.{reply_words, found_words};
 ghost use Rattle.ck_report.specs.Reports.{IsReply, IsFound, IsAnswer, IsPair};
 ghost use Rattle.ck_report.specs.Lines.{IsRead, IsShort, IsTaken, line_words};
@@ -8,7 +8,8 @@ ghost use Rattle.ck_report.specs.Lines.{IsRead, IsShort, IsTaken, line_words};
 use crate::asked::Asked;
 use crate::line::ReportLine;
 use ck_history::Reply;
-use ck_script::{KeyWord, cut, read_number};
+use ck_script::KeyWord;
+use ck_text::{cut, read_number};
 
 /// What the line says, where it says something that a report may say.
 pub fn read_line<K: KeyWord>(line: &[u8]) -> Option<ReportLine<K>>

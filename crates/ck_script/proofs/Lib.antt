@@ -1,5 +1,3 @@
-pub mod Cutting
-pub mod Decimals
 pub mod Saying
 pub mod Checking
 pub mod Ranges
@@ -8,4 +6,4 @@ pub mod Circles
 pub mod Meaning
 pub mod Shorts
 pub mod Prefixes
-pub mod Counting
+mod Verbs

@@ -5,8 +5,9 @@ use Rattle.std.specs.List.{AllByRecursion}
 use Rattle.ck_script.specs.declared.line.Numbered.{Numbered}
 use Rattle.ck_script.specs.declared.fault.Why.{Why}
 use Rattle.ck_script.specs.declared.fault.ScriptFault.{ScriptFault}
-use Rattle.ck_script.specs.Text.{lines, words, IsSilent}
-use Rattle.ck_script.specs.Grammar.{Says, Say, FileSays, Adds, IsFirstFault}
+use Rattle.ck_text.specs.Lines.{lines}
+use Rattle.ck_text.specs.Words.{words}
+use Rattle.ck_script.specs.Grammar.{IsSilent, Says, Say, FileSays, Adds, IsFirstFault}
 use Rattle.ck_script.specs.Reading.{IsFaultyLine}
 
 module _ {L : Type 0} (IsTaken : L → Type 0) (spelling : L → List (List ℕ)) where

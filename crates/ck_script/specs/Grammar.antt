@@ -14,11 +14,14 @@ use Rattle.ck_script.specs.declared.fault.Why.TheVariants.{Verb, Shape, Number}
 use Rattle.ck_script.specs.declared.fault.ScriptFault.{ScriptFault}
 use Rattle.ck_script.specs.declared.fault.ScriptError.{ScriptError}
 use Rattle.ck_script.specs.declared.fault.ScriptError.TheVariants.{Fault, Memory}
-use Rattle.ck_script.specs.Text.{lines, words, IsSilent}
+use Rattle.ck_text.specs.Lines.{lines}
+use Rattle.ck_text.specs.Words.{words}
+use Rattle.ck_text.specs.Decimals.{IsNumber}
 
--- a word that is a number of 64 bits, in its one spelling
-abbrev pub IsNumber : List ℕ → Type 0
-IsNumber w = (n : ℕ) × (n < 2 ^ 64) × (w ≡ decimal n)
+-- blank lines and comments say nothing
+abbrev pub IsSilent : List ℕ → Type 0
+IsSilent [] = Unit {0}
+IsSilent (b ∷ line) = b ≡ 35
 
 -- what a script of lines of one kind says: each line has one spelling
 module _ {L : Type 0} (IsTaken : L → Type 0) (spelling : L → List (List ℕ)) where

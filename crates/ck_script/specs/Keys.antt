@@ -1,30 +1,12 @@
 -- How a table's key is spelt, and what is wrong with a word that spells none.
-use Rattle.std.specs.Prelude.{◌≡◌, ℕ, ◌<◌, ◌≤◌, ◌^◌, ◌-◌, ◌⊎◌, List, [], ◌∷◌, decimal, refl}
-use Rattle.std.specs.Str.Parse.{AllDigits, digits_value}
-use Rattle.std.proofs.Common.{sym, ◌∙◌, ap, inl, inr, arith, lit<, lit≤}
-use Rattle.std.proofs.lemmas.Fmt.{decimal_is_IsNumeral_wide}
-use Rattle.std.proofs.lemmas.Str.Parse.{digit_at}
+use Rattle.std.specs.Prelude.{◌≡◌, ℕ, ◌<◌, ◌^◌, ◌-◌, ◌⊎◌, List, decimal, refl}
+use Rattle.std.proofs.Common.{inl, inr, arith, lit<}
 use Rattle.ck_history.specs.Key.{IsKey}
-use Rattle.ck_script.specs.Text.{IsWord}
+use Rattle.ck_text.specs.Words.{IsWord}
+use Rattle.ck_text.specs.Decimals.{IsWideNumber}
+use Rattle.ck_text.specs.Laws.{decimal_one_word, decimal_tells}
 use Rattle.ck_script.specs.declared.fault.Why.{Why}
 use Rattle.ck_script.specs.declared.fault.Why.TheVariants.{Verb, Shape, Number, Key, Beyond, Many, Circle}
-
--- a word that is a number of 128 bits, in its one spelling
-abbrev pub IsWideNumber : List ℕ → Type 0
-IsWideNumber w = (n : ℕ) × (n < 2 ^ 128) × (w ≡ decimal n)
-
--- digits make a word
-digits_one_word : (ds : List ℕ) → AllDigits 10 ds → IsWord ds
-digits_one_word [] all = tt
-digits_one_word (d ∷ ds) all =
-    let range = digit_at (d ∷ ds) 0 all (omega arith) in
-    ((λ e. omega (arith, range.0), λ e. omega (arith, range.0)), digits_one_word ds all.1)
-
--- a decimal is one word
-pub decimal_one_word : (n : ℕ) → n < 2 ^ 128 → IsWord (decimal n)
-decimal_one_word n h =
-    let le : 2 ^ 128 ≤ 10 ^ 64 = lit≤ tt in
-    digits_one_word (decimal n) (decimal_is_IsNumeral_wide n (omega arith)).0.1
 
 -- it is no number of 128 bits, or one of the two that are reserved
 abbrev pub IsTableKeyFault : List ℕ → Why → Type 0
@@ -32,17 +14,7 @@ IsTableKeyFault w Number = IsWideNumber w → ⊥
 IsTableKeyFault w Key = (w ≡ decimal 0) ⊎ (w ≡ decimal (2 ^ 128 - 1))
 IsTableKeyFault w _ = ⊥
 
--- a decimal tells its number
-pub decimal_tells : (m n : ℕ) → m < 2 ^ 128 → n < 2 ^ 128 → decimal m ≡ decimal n → m ≡ n
-decimal_tells m n hm hn e =
-    let le : 2 ^ 128 ≤ 10 ^ 64 = lit≤ tt in
-    let read_m = decimal_is_IsNumeral_wide m (omega arith) in
-    let read_n = decimal_is_IsNumeral_wide n (omega arith) in
-    sym read_m.1 ∙ (ap (digits_value 10) e ∙ read_n.1)
-
-pub one_number : (m n : ℕ) → m < 2 ^ 64 → n < 2 ^ 64 → decimal m ≡ decimal n → m ≡ n
-one_number m n hm hn e = decimal_tells m n (omega arith) (omega arith) e
-
+-- two keys have two spellings
 pub one_table_key : (j k : ℕ) → IsKey j → IsKey k → decimal j ≡ decimal k → j ≡ k
 one_table_key j k hj hk e = decimal_tells j k (omega arith) (omega arith) e
 

@@ -1,10 +1,12 @@
 -- What the parts of a reader say of a line.
-use Rattle.std.specs.Prelude.{◌≡◌, ℕ, ◌<◌, ◌≤◌, ◌^◌, List, ◌∷◌, ◌++◌, length, drop, decimal}
+use Rattle.std.specs.Prelude.{◌≡◌, ℕ, ◌<◌, ◌≤◌, ◌^◌, List, [], ◌∷◌, ◌++◌, length, drop, decimal, Option, Some, None}
+use Rattle.std.specs.Borrow.{Bor}
 use Rattle.ck_script.specs.declared.fault.Why.{Why}
 use Rattle.ck_script.specs.declared.fault.ScriptFault.{ScriptFault}
 use Rattle.ck_script.specs.declared.line.Numbered.{Numbered}
-use Rattle.ck_script.specs.Text.{lines, words, IsSilent}
-use Rattle.ck_script.specs.Grammar.{Says, Adds}
+use Rattle.ck_text.specs.Lines.{lines}
+use Rattle.ck_text.specs.Words.{words}
+use Rattle.ck_script.specs.Grammar.{IsSilent, Says, Adds}
 
 -- the fault is that of this line, which has this number
 pub record IsFaultyLine (HasFault : List (List ℕ) → Why → Type 0) (n : ℕ) (line : List ℕ) (fault : ScriptFault) : Type 0 where
@@ -12,9 +14,10 @@ pub record IsFaultyLine (HasFault : List (List ℕ) → Why → Type 0) (n : ℕ
   pub speaks : IsSilent line → ⊥
   pub why : HasFault (words line) fault.why
 
--- so many digits, of which this is the first, are the one spelling of a number
-abbrev pub IsSpelt : ℕ → ℕ → Type 0
-IsSpelt first count = (0 < count) × (first ≡ 48 → count ≤ 1)
+-- the words of what stands after a line's first space
+abbrev pub words_after : Option (Bor (List ℕ)) → List (List ℕ)
+words_after None = []
+words_after (Some rest) = words rest.now
 
 -- the line that has this fault is the first of the text
 pub record IsFaultyFirstLine (HasFault : List (List ℕ) → Why → Type 0) (n : ℕ) (text : List ℕ) (fault : ScriptFault) : Type 0 where

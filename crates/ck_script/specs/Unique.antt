@@ -1,6 +1,6 @@
 -- No two lines have the same words, and no line that speaks has the words of a silent one.
 use Rattle.std.specs.Prelude.{◌≡◌, ℕ, ◌⊎◌, List, [], ◌∷◌, decimal, ◌==◌, refl}
-use Rattle.std.proofs.Common.{get_or, inl, inr, ap, arith, ◌∙◌}
+use Rattle.std.proofs.Common.{inl, inr, ap, arith, ◌∙◌}
 use Rattle.std.specs.List.{onto_first}
 use Rattle.std.proofs.lemmas.Bool.{ne_eqb}
 use Rattle.std.proofs.lemmas.List.Splits.{slice_split-cons_no}
@@ -10,13 +10,9 @@ use Rattle.ck_script.specs.declared.line.UpLine.{UpLine}
 use Rattle.ck_script.specs.declared.line.UpLine.TheVariants.{Call, Hold}
 use Rattle.ck_script.specs.declared.line.AskLine.{AskLine}
 use Rattle.ck_script.specs.declared.line.AskLine.TheVariants.{Ask, Wait}
-use Rattle.ck_script.specs.Text.{words, IsSilent}
-use Rattle.ck_script.specs.Grammar.{update_words, query_words, IsUpdateLine, IsQueryLine}
-use Rattle.ck_script.specs.Keys.{one_number}
-
--- the first byte of the first word
-abbrev first_byte : List (List ℕ) → ℕ
-first_byte ws = get_or (get_or ws 0 []) 0 0
+use Rattle.ck_text.specs.Words.{words, first_byte}
+use Rattle.ck_text.specs.Laws.{one_number}
+use Rattle.ck_script.specs.Grammar.{IsSilent, update_words, query_words, IsUpdateLine, IsQueryLine}
 
 -- what a byte that is put before a first word makes the first byte
 onto_first_byte : (b : ℕ) (ws : List (List ℕ)) → first_byte (onto_first b ws) ≡ b

@@ -1,13 +1,11 @@
 ghost use Rattle.std.specs.Prelude.{◌≡◌, ◌≢◌, ◌<◌, ◌^◌, [], ◌∷◌, length, decimal, IfSome, MatchOption, MatchResult};
 ghost use Rattle.ck_script.specs.declared.fault.Why.TheVariants.{Shape};
-ghost use Rattle.ck_script.specs.Text.{words_after};
-ghost use Rattle.ck_script.specs.Reading.{HasKeyPrefix, HasPairPrefix};
+ghost use Rattle.ck_script.specs.Reading.{words_after, HasKeyPrefix, HasPairPrefix};
 ghost use Rattle.ck_script.specs.Grammar.{key, number, HasArgumentFault};
 
-use crate::decimal::{number_prefix, read_number};
 use crate::fault::Why;
 use crate::key_word::KeyWord;
-use crate::parts::cut;
+use ck_text::{cut, number_prefix, read_number};
 
 /// The key and the number that stand after a verb.
 pub fn key_and_number<K: KeyWord>(rest: Option<&[u8]>) -> Result<(K, u64), Why>

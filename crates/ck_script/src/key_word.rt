@@ -1,10 +1,8 @@
 ghost use Rattle.std.specs.Prelude.{◌≡◌, ◌++◌, ◌+◌, ◌<◌, ◌≤◌, length, take, drop, IfSome, MatchResult, OnOk, OnErr};
 
-use crate::decimal::{number_prefix, read_decimal};
 use crate::fault::Why;
-use crate::prepend::{prepend_bytes, prepend_number};
 use ck_history::Key;
-use itoa::Buffer;
+use ck_text::{number_prefix, prepend_wide_number, print_number, read_decimal};
 use std::alloc::AllocError;
 
 /// A key that scripts and reports spell as one word.
@@ -21,7 +19,7 @@ pub trait KeyWord: Copy {
     ghost use Rattle.std.specs.Prelude.{◌≡◌, ◌⊎◌, ℕ, List};
     ghost use Rattle.ck_script.specs.declared.fault.Why.{Why};
     ghost use Rattle.ck_script.specs.declared.fault.Why.TheVariants.{Number, Key};
-    ghost use Rattle.ck_script.specs.Text.{IsWord};
+    ghost use Rattle.ck_text.specs.Words.{IsWord};
 
     /// The key that the word spells, or what is wrong with the word.
     fn read_word(text: &[u8]) -> Result<Self, Why>
@@ -90,22 +88,10 @@ impl KeyWord for Key {
     }
 
     fn print_word(&self, out: &mut Vec<u8>) -> Result<(), AllocError> {
-        let n = self.get();
-        let mut buffer = Buffer::new();
-        if n <= u64::MAX as u128 {
-            out.extend_from_slice(buffer.format(n as u64).as_bytes())
-        } else {
-            out.extend_from_slice(buffer.format(n).as_bytes())
-        }
+        print_number(out, self.get())
     }
 
     fn prepend_word(&self, text: &mut [u8], end: usize) -> usize {
-        let n = self.get();
-        if n <= u64::MAX as u128 {
-            prepend_number(text, end, n as u64)
-        } else {
-            let mut buffer = Buffer::new();
-            prepend_bytes(text, end, buffer.format(n).as_bytes())
-        }
+        prepend_wide_number(text, end, self.get())
     }
 }

@@ -5,23 +5,17 @@
 mod arguments;
 mod check;
 mod circle;
-mod decimal;
 mod fault;
 mod key_word;
 mod line;
-mod parts;
-mod prepend;
 mod read;
 mod script_line;
 
 pub use check::{RangeFault, check_ranges};
 pub use circle::check_circles;
-pub use decimal::{read_decimal, read_number};
 pub use fault::{ScriptError, ScriptFault, Why};
 pub use key_word::KeyWord;
 pub use line::{AskLine, Numbered, UpLine};
-pub use parts::{count_lines, cut, first_line};
-pub use prepend::{prepend_bytes, prepend_number};
 pub use read::{read_queries, read_updates, scan_queries, scan_updates};
 
 #[cfg(test)]

@@ -8,9 +8,9 @@ ghost use Rattle.ck_script.specs.Reading.{IsFaultyFirstLine, IsFaultyLine, Takes
 use crate::fault::{ScriptError, ScriptFault, Why};
 use crate::key_word::KeyWord;
 use crate::line::{AskLine, Numbered, UpLine};
-use crate::parts::first_line;
 use crate::script_line::ScriptLine;
 use ck_history::Update;
+use ck_text::first_line;
 use std::alloc::{AllocError, Global};
 
 /// What the lines of an update file say, in order, blank lines and comments left out. A file says at most one thing.

@@ -1,20 +1,21 @@
 ghost use Rattle.std.specs.Prelude.{◌≡◌, ◌≤◌, length, take, IsTrue, IfSome, MatchResult};
 ghost use Rattle.ck_script.specs.Grammar.{Says};
 ghost use Rattle.ck_script.specs.Reading.{HasLinePrefix};
-ghost use Rattle.ck_script.specs.Text.{words};
+ghost use Rattle.ck_text.specs.Words.{words};
 
 use crate::arguments::{key_and_number, key_prefix, no_word, only_key, only_number, pair_prefix};
 use crate::fault::Why;
 use crate::key_word::KeyWord;
 use crate::line::{AskLine, UpLine};
-use crate::parts::cut;
 use ck_history::Update;
+use ck_text::cut;
 
 /// What one line of a script says, for the scripts of one kind.
 pub trait ScriptLine: Copy {
     ghost use Rattle.std.specs.Prelude.{◌≡◌, ℕ, Bool, List};
     ghost use Rattle.ck_script.specs.declared.fault.Why.{Why};
-    ghost use Rattle.ck_script.specs.Text.{words, IsSilent};
+    ghost use Rattle.ck_script.specs.Grammar.{IsSilent};
+    ghost use Rattle.ck_text.specs.Words.{words};
 
     /// What a script may say.
     ghost is_taken: { Self → Type 0 };

@@ -1,5 +1,6 @@
 use Rattle.std.proofs.Common.{[], ◌∷◌, codes}
-use Rattle.ck_report.specs.Text.{pair_lines, line}
+use Rattle.ck_text.specs.Words.{line}
+use Rattle.ck_report.specs.Text.{pair_lines}
 use Rattle.ck_report.proofs.Streaming.{err_always, on_err_map, on_ok_map, files_failing, pairs_failing, end_failing, end_put}
 use Rattle.ck_report.proofs.put.put_report.Goals as goal
 

@@ -1,4 +1,4 @@
-use Rattle.ck_script.proofs.Cutting.{parts_some}
+use Rattle.ck_text.proofs.Cutting.{parts_some}
 use Rattle.ck_report.proofs.read_line.first_of_more.Goals as goal
 
 pub returns-in-Some : goal.returns-in-Some

@@ -2,7 +2,7 @@ use Rattle.std.proofs.Common.{◌≡◌, ◌∷◌, codes, sym, ◌∙◌, ap}
 use Rattle.std.proofs.lemmas.Bool.Decides.{Decides-eqb}
 use Rattle.std.proofs.lemmas.Slice.Eq.{slice_eq-Decides}
 use Rattle.ck_report.specs.Lines.{IsTaken, IsShort, line_words}
-use Rattle.ck_script.specs.Text.{words}
+use Rattle.ck_text.specs.Words.{words}
 use Rattle.ck_report.proofs.Words.{none_read, update_only, answer_only, pair_only}
 use Rattle.ck_report.proofs.read_line.read_line.Goals as goal
 

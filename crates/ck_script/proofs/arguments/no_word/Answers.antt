@@ -1,5 +1,5 @@
 use Rattle.std.proofs.Common.{refl, arith}
-use Rattle.ck_script.proofs.Cutting.{parts_some}
+use Rattle.ck_text.proofs.Cutting.{parts_some}
 use Rattle.ck_script.proofs.arguments.no_word.Goals as goal
 
 pub returns-in-Some : goal.returns-in-Some

@@ -1,4 +1,4 @@
-use Rattle.ck_script.proofs.Cutting.{more_words}
+use Rattle.ck_script.proofs.Verbs.{more_words}
 use Rattle.ck_script.proofs.arguments.one_word.Goals as goal
 
 pub returns-in-Some : goal.returns-in-Some

@@ -1,0 +1,11 @@
+use Rattle.std.proofs.Common.{◌≡◌, ◌≤◌, take}
+use Rattle.std.specs.Str.Parse.{AllDigits, digits_value}
+use Rattle.ck_text.proofs.decimal.read_decimal.Given as goal
+
+-- the digits so far write the number so far
+abbrev pub invariant-loop-b : goal.invariant-loop-b
+invariant-loop-b l = record {
+  digits : AllDigits 10 (take l.b-index l.word);
+  value : l.n ≡ digits_value 10 (take l.b-index l.word);
+  small : l.n ≤ l.most;
+}

@@ -1,0 +1,4 @@
+pub mod Lines
+pub mod Words
+pub mod Decimals
+pub mod Laws
