@@ -15,7 +15,7 @@ use Rattle.ck_history.specs.declared.event.WriterEvent.{WriterEvent}
 use Rattle.ck_history.specs.declared.event.WriterEvent.TheVariants.{Updated, Told}
 use Rattle.ck_history.specs.declared.event.ReaderEvent.{ReaderEvent}
 use Rattle.ck_history.specs.declared.event.ReaderEvent.TheVariants.{Answered}
-use Rattle.ck_pool.specs.Runs.{unmet, met, QueryLineRan, QueriesRan, told, UpdateLineRan, UpdatesRan}
+use Rattle.ck_pool.specs.Runs.{short_loads, final_load, QueryLineRan, QueriesRan, answer_loads, UpdateLineRan, UpdatesRan}
 use Rattle.ck_pool.specs.Meaning.{EyeMeaning}
 use Rattle.ck_pool.specs.Places.{AreUnused, AllPlaced}
 use Rattle.ck_pool.specs.Served.{AreServed}
@@ -87,9 +87,9 @@ rest_all ps j p here = let same : 0 + j ≡ j = omega arith in ap (λ (k : ℕ).
 
 module _ {A B : Type 0} (count : ℕ) (gives : ℕ → A → B) where
   -- loads that weren't met leave the places, and may raise the least
-  past_unmet : (least n : ℕ) (ms : List ℕ) (ds : List (ReaderEvent A B)) (ps : List ℕ) → ArePlacedAt count gives least (unmet n ms ++ ds) ps → (raised : ℕ) × (least ≤ raised) × ArePlacedAt count gives raised ds ps
-  past_unmet least n [] ds ps h = (least, omega arith, h)
-  past_unmet least n (m ∷ ms) ds ps h = let r = past_unmet (max least m) n ms ds ps h in let le = r.1 in (r.0, omega arith, r.2)
+  past_short_loads : (least n : ℕ) (ms : List ℕ) (ds : List (ReaderEvent A B)) (ps : List ℕ) → ArePlacedAt count gives least (short_loads n ms ++ ds) ps → (raised : ℕ) × (least ≤ raised) × ArePlacedAt count gives raised ds ps
+  past_short_loads least n [] ds ps h = (least, omega arith, h)
+  past_short_loads least n (m ∷ ms) ds ps h = let r = past_short_loads (max least m) n ms ds ps h in let le = r.1 in (r.0, omega arith, r.2)
 
   module _ (places : ℕ → List ℕ) (hs : List HoldLine) (kept : HoldsKept places hs) (f : ℕ) where
     abbrev Placed : List (AskLine A) → List B → List ℕ → ℕ → ℕ → ℕ → Type 0
@@ -119,8 +119,8 @@ module _ {A B : Type 0} (count : ℕ) (gives : ℕ → A → B) where
         )
     lines_placed (Wait n ∷ ls) ds bs ps low least i le (d, later, b, more, p, q, line, ran) h rest =
         let ms = line.0 in
-        let whole : ds ≡ unmet n ms ++ (met n ∷ later) = p ∙ (ap (λ (x : List (ReaderEvent A B)). x ++ later) line.1 ∙ append_assoc (unmet n ms) (met n ∷ []) later) in
-        let past = past_unmet least n ms (met n ∷ later) ps (subst (λ (x : List (ReaderEvent A B)). ArePlacedAt count gives least x ps) whole h) in
+        let whole : ds ≡ short_loads n ms ++ (final_load n ∷ later) = p ∙ (ap (λ (x : List (ReaderEvent A B)). x ++ later) line.1 ∙ append_assoc (short_loads n ms) (final_load n ∷ []) later) in
+        let past = past_short_loads least n ms (final_load n ∷ later) ps (subst (λ (x : List (ReaderEvent A B)). ArePlacedAt count gives least x ps) whole h) in
         let raised = past.0 in
         let up : least ≤ raised = past.1 in
         let next = lines_placed ls later more ps (max low n) (max raised n) i (omega arith) ran past.2 rest in
@@ -153,17 +153,17 @@ module _ {C R : Type 0} where
   updates_said [] ds rs h = h
   updates_said (l ∷ ls) ds rs (d, rest, r, more, p, q, line, later) = (d, rest, r, more, p, q, line, updates_said ls rest more later)
 
-  told_calls : (reader : ℕ) (ms : List ℕ) (ds : List (WriterEvent C R)) → updates_in (told reader ms ++ ds) ≡ updates_in ds
-  told_calls reader [] ds = refl
-  told_calls reader (m ∷ ms) ds = told_calls reader ms ds
+  answer_loads_calls : (reader : ℕ) (ms : List ℕ) (ds : List (WriterEvent C R)) → updates_in (answer_loads reader ms ++ ds) ≡ updates_in ds
+  answer_loads_calls reader [] ds = refl
+  answer_loads_calls reader (m ∷ ms) ds = answer_loads_calls reader ms ds
 
-  told_replies : (reader : ℕ) (ms : List ℕ) (ds : List (WriterEvent C R)) → replies_in (told reader ms ++ ds) ≡ replies_in ds
-  told_replies reader [] ds = refl
-  told_replies reader (m ∷ ms) ds = told_replies reader ms ds
+  answer_loads_replies : (reader : ℕ) (ms : List ℕ) (ds : List (WriterEvent C R)) → replies_in (answer_loads reader ms ++ ds) ≡ replies_in ds
+  answer_loads_replies reader [] ds = refl
+  answer_loads_replies reader (m ∷ ms) ds = answer_loads_replies reader ms ds
 
-  told_kept : (places : ℕ → List ℕ) (m reader : ℕ) (ms : List ℕ) (ds : List (WriterEvent C R)) → AreBoundedFrom places m (told reader ms ++ ds) → AreBoundedFrom places m ds
-  told_kept places m reader [] ds h = h
-  told_kept places m reader (k ∷ ms) ds h = told_kept places m reader ms ds h.1
+  answer_loads_kept : (places : ℕ → List ℕ) (m reader : ℕ) (ms : List ℕ) (ds : List (WriterEvent C R)) → AreBoundedFrom places m (answer_loads reader ms ++ ds) → AreBoundedFrom places m ds
+  answer_loads_kept places m reader [] ds h = h
+  answer_loads_kept places m reader (k ∷ ms) ds h = answer_loads_kept places m reader ms ds h.1
 
   -- the calls that were made are those of the lines, in order, and the replies are theirs
   calls_said : (ls : List (UpLine C)) (ds : List (WriterEvent C R)) (rs : List R) → UpdatesSaid ls ds rs → (updates ls ≡ updates_in ds) × (rs ≡ replies_in ds)
@@ -178,10 +178,10 @@ module _ {C R : Type 0} where
   calls_said (Hold file n ∷ ls) ds rs (d, rest, r, more, p, q, line, later) =
       let next = calls_said ls rest more later in
       let reader = file - 1 in
-      let whole : ds ≡ told reader line.0 ++ (told reader (line.1 ∷ []) ++ rest) = p ∙ (ap (λ (x : List (WriterEvent C R)). x ++ rest) line.2 ∙ append_assoc (told reader line.0) (told reader (line.1 ∷ [])) rest) in
+      let whole : ds ≡ answer_loads reader line.0 ++ (answer_loads reader (line.1 ∷ []) ++ rest) = p ∙ (ap (λ (x : List (WriterEvent C R)). x ++ rest) line.2 ∙ append_assoc (answer_loads reader line.0) (answer_loads reader (line.1 ∷ [])) rest) in
       let replies : rs ≡ more = q ∙ ap (λ (x : List R). x ++ more) line.5 in (
-        next.0 ∙ sym (ap updates_in whole ∙ told_calls reader line.0 (told reader (line.1 ∷ []) ++ rest)),
-        replies ∙ (next.1 ∙ sym (ap replies_in whole ∙ told_replies reader line.0 (told reader (line.1 ∷ []) ++ rest))),
+        next.0 ∙ sym (ap updates_in whole ∙ answer_loads_calls reader line.0 (answer_loads reader (line.1 ∷ []) ++ rest)),
+        replies ∙ (next.1 ∙ sym (ap replies_in whole ∙ answer_loads_replies reader line.0 (answer_loads reader (line.1 ∷ []) ++ rest))),
       )
 
   -- each `hold` line is kept
@@ -192,8 +192,8 @@ module _ {C R : Type 0} where
       holds_said places (m + 1) ls rest more later (subst (λ (x : List (WriterEvent C R)). AreBoundedFrom places m x) whole kept)
   holds_said places m (Hold file n ∷ ls) ds rs (d, rest, r, more, p, q, line, later) kept =
       let reader = file - 1 in
-      let whole : ds ≡ told reader line.0 ++ (told reader (line.1 ∷ []) ++ rest) = p ∙ (ap (λ (x : List (WriterEvent C R)). x ++ rest) line.2 ∙ append_assoc (told reader line.0) (told reader (line.1 ∷ [])) rest) in
-      let now : AreBoundedFrom places m (Told reader line.1 ∷ rest) = told_kept places m reader line.0 (Told reader line.1 ∷ rest) (subst (λ (x : List (WriterEvent C R)). AreBoundedFrom places m x) whole kept) in
+      let whole : ds ≡ answer_loads reader line.0 ++ (answer_loads reader (line.1 ∷ []) ++ rest) = p ∙ (ap (λ (x : List (WriterEvent C R)). x ++ rest) line.2 ∙ append_assoc (answer_loads reader line.0) (answer_loads reader (line.1 ∷ [])) rest) in
+      let now : AreBoundedFrom places m (Told reader line.1 ∷ rest) = answer_loads_kept places m reader line.0 (Told reader line.1 ∷ rest) (subst (λ (x : List (WriterEvent C R)). AreBoundedFrom places m x) whole kept) in
       (up_to_fewer n line.1 m (places reader) line.4 now.0, holds_said places m ls rest more later now.1)
 
   pub calls_ran : (ls : List (Numbered (UpLine C))) (ds : List (WriterEvent C R)) (rs : List R) → UpdatesRan ls ds rs → (updates (said_of ls) ≡ updates_in ds) × (rs ≡ replies_in ds)

@@ -5,13 +5,14 @@ use Rattle.std.specs.declared.alloc.Global.{Global}
 use Rattle.ck_script.specs.declared.line.Numbered.{Numbered}
 use Rattle.ck_script.specs.declared.line.AskLine.{AskLine}
 use Rattle.ck_history.specs.declared.event.ReaderEvent.{ReaderEvent}
-use Rattle.ck_pool.specs.declared.query.QueryRun.{QueryRun}
+use Rattle.ck_pool.specs.Limits.{call_bound}
+use Rattle.ck_pool.specs.declared.query_run.QueryRun.{QueryRun}
 use Rattle.ck_pool.specs.Runs.{QueriesRan}
-use Rattle.ck_pool.specs.Desk.{occurrences, joined, DeskView, ClerkView, IsClerkOf}
+use Rattle.ck_pool.specs.Desk.{occurrences, known_of_both, DeskView, ClerkView, IsClerkOf}
 use Rattle.ck_pool.proofs.Taking.{times_append}
 use Rattle.ck_pool.specs.Meaning.{EyeMeaning}
-use Rattle.ck_pool.specs.Served.{IsServed, AreServed}
-use Rattle.ck_pool.specs.Working.{IsHalted, RanTo, IsWait, AreFew, IsFileRun, IsRun, runs_of}
+use Rattle.ck_pool.specs.Served.{IsQueryFileServed, AreServed}
+use Rattle.ck_pool.specs.Working.{IsHalted, RanTo, IsWaitLine, AreFew, IsFileRun, IsQueryRun, runs_of}
 use Rattle.ck_pool.proofs.Running.{get_lt, get_is, some_same, take_one_more}
 
 module _ {A B : Type 0} where
@@ -26,12 +27,12 @@ module _ {A B : Type 0} where
   pub stands_at : (lines : List (Numbered (AskLine A))) (waits_at : Option ℕ) (i : ℕ) (ds : List (ReaderEvent A B)) (bs : List B) → waits_at ≡ Some i → RanTo lines waits_at ds bs → IsHalted lines i ds bs
   stands_at lines waits_at i ds bs is ran = subst (λ (o : Option ℕ). RanTo lines o ds bs) is ran
 
-  pub waits_at : (lines : List (Numbered (AskLine A))) (i : ℕ) (ds : List (ReaderEvent A B)) (bs : List B) → IsHalted lines i ds bs → IsWait lines i
+  pub waits_at : (lines : List (Numbered (AskLine A))) (i : ℕ) (ds : List (ReaderEvent A B)) (bs : List B) → IsHalted lines i ds bs → IsWaitLine lines i
   waits_at lines i ds bs s = record { n = s.n; line = s.line; here = s.here; waits = s.waits }
 
 module _ {E A B : Type 0} (meaning : EyeMeaning E A B) (eyes : List E) (asks : List (Vec (Numbered (AskLine A)) Global)) where
   pub run_is : (file : ℕ) (r : QueryRun E B) (given : E) (lines : Vec (Numbered (AskLine A)) Global) (ls : List (Numbered (AskLine A))) → r.file ≡ file → slice_get eyes file ≡ Some given → slice_get asks file ≡ Some lines → ls ≡ lines.items
-      → IsFileRun meaning given ls r → IsRun meaning eyes asks r
+      → IsFileRun meaning given ls r → IsQueryRun meaning eyes asks r
   run_is file r given lines ls same eye of is run = record {
     given = given;
     lines = lines;
@@ -40,9 +41,9 @@ module _ {E A B : Type 0} (meaning : EyeMeaning E A B) (eyes : List E) (asks : L
     run = subst (λ (x : List (Numbered (AskLine A))). IsFileRun meaning given x r) is run;
   }
 
-  pub runs_again : (r r' : QueryRun E B) (i : ℕ) (ls : List (Numbered (AskLine A))) (h : IsRun meaning eyes asks r) → ls ≡ h.lines.items → r.waits_at ≡ Some i → r'.file ≡ r.file → meaning.ready r'.eye → meaning.number r'.eye ≡ meaning.number r.eye → AreFew (meaning.calls r'.eye) r'.waits_at
+  pub runs_again : (r r' : QueryRun E B) (i : ℕ) (ls : List (Numbered (AskLine A))) (h : IsQueryRun meaning eyes asks r) → ls ≡ h.lines.items → r.waits_at ≡ Some i → r'.file ≡ r.file → meaning.ready r'.eye → meaning.number r'.eye ≡ meaning.number r.eye → AreFew (meaning.calls r'.eye) r'.waits_at
       → (ds : List (ReaderEvent A B)) → meaning.done r'.eye ≡ meaning.done r.eye ++ ds → ((before : List (ReaderEvent A B)) → IsHalted ls i before r.answers.items → RanTo ls r'.waits_at (before ++ ds) r'.answers.items)
-      → IsRun meaning eyes asks r'
+      → IsQueryRun meaning eyes asks r'
   runs_again r r' i ls h is at same good number_same may ds grown ran = record {
     given = h.given;
     lines = h.lines;
@@ -62,7 +63,7 @@ module _ {E A B : Type 0} (meaning : EyeMeaning E A B) (eyes : List E) (asks : L
   }
 
   -- a file that was run to its end
-  pub served_is : (r : QueryRun E B) (h : IsRun meaning eyes asks r) → r.waits_at ≡ None → IsServed meaning h.given h.lines.items r.eye r.answers.items
+  pub served_is : (r : QueryRun E B) (h : IsQueryRun meaning eyes asks r) → r.waits_at ≡ None → IsQueryFileServed meaning h.given h.lines.items r.eye r.answers.items
   served_is r h ended = record {
     is_ready = h.run.is_ready;
     same = h.run.same;
@@ -73,7 +74,7 @@ module _ {E A B : Type 0} (meaning : EyeMeaning E A B) (eyes : List E) (asks : L
   }
 
 module _ {E A B : Type 0} (meaning : EyeMeaning E A B) where
-  pub served_snoc : (es : List E) (files : List (List (Numbered (AskLine A)))) (backs : List E) (bss : List (List B)) (e : E) (lines : List (Numbered (AskLine A))) (back : E) (bs : List B) → AreServed meaning es files backs bss → IsServed meaning e lines back bs
+  pub served_snoc : (es : List E) (files : List (List (Numbered (AskLine A)))) (backs : List E) (bss : List (List B)) (e : E) (lines : List (Numbered (AskLine A))) (back : E) (bs : List B) → AreServed meaning es files backs bss → IsQueryFileServed meaning e lines back bs
       → AreServed meaning (es ++ e ∷ []) (files ++ lines ∷ []) (backs ++ back ∷ []) (bss ++ bs ∷ [])
   served_snoc [] [] [] [] e lines back bs all one = (one, tt)
   served_snoc [] [] [] (x ∷ bss) e lines back bs all one = absurd all
@@ -212,7 +213,7 @@ module _ {E B : Type 0} where
       omega arith
 
 module _ {E : Type 0} where
-  pub joined_clerk : (d : DeskView E) (k k' o : ClerkView E) → k' ≡ record k { known = joined k.known o.known } → IsClerkOf d k → IsClerkOf d k'
+  pub joined_clerk : (d : DeskView E) (k k' o : ClerkView E) → k' ≡ record k { known = known_of_both k.known o.known } → IsClerkOf d k → IsClerkOf d k'
   joined_clerk d k k' o e h =
       let parts : k'.known.parts ≡ k.known.parts + o.known.parts = ap (λ (x : ClerkView E). x.known.parts) e in
       let some_part = h.some_part in
@@ -223,7 +224,7 @@ module _ {E : Type 0} where
       }
 
 module _ {E A B : Type 0} (meaning : EyeMeaning E A B) where
-  pub served_each : (es : List E) (files : List (List (Numbered (AskLine A)))) (backs : List E) (bss : List (List B)) → AreServed meaning es files backs bss → (k : ℕ) (e : E) → slice_get backs k ≡ Some e → meaning.ready e × (meaning.calls e < 2 ^ 39)
+  pub served_each : (es : List E) (files : List (List (Numbered (AskLine A)))) (backs : List E) (bss : List (List B)) → AreServed meaning es files backs bss → (k : ℕ) (e : E) → slice_get backs k ≡ Some e → meaning.ready e × (meaning.calls e < call_bound)
   served_each [] [] [] [] all k e is = cc
   served_each [] [] [] (w ∷ bss) all k e is = absurd all
   served_each [] [] (z ∷ backs) bss all k e is = absurd all
@@ -231,7 +232,7 @@ module _ {E A B : Type 0} (meaning : EyeMeaning E A B) where
   served_each (x ∷ es) [] backs bss all k e is = absurd all
   served_each (x ∷ es) (y ∷ files) [] bss all k e is = absurd all
   served_each (x ∷ es) (y ∷ files) (z ∷ backs) [] all k e is = absurd all
-  served_each (x ∷ es) (y ∷ files) (z ∷ backs) (w ∷ bss) all zero e is = subst (λ (u : E). meaning.ready u × (meaning.calls u < 2 ^ 39)) (some_same z e is) (all.0.is_ready, all.0.few)
+  served_each (x ∷ es) (y ∷ files) (z ∷ backs) (w ∷ bss) all zero e is = subst (λ (u : E). meaning.ready u × (meaning.calls u < call_bound)) (some_same z e is) (all.0.is_ready, all.0.few)
   served_each (x ∷ es) (y ∷ files) (z ∷ backs) (w ∷ bss) all (suc k) e is = served_each es files backs bss all.1 k e is
 
   pub served_long : (es : List E) (files : List (List (Numbered (AskLine A)))) (backs : List E) (bss : List (List B)) → AreServed meaning es files backs bss → length backs ≡ length es

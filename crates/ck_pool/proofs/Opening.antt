@@ -13,11 +13,12 @@ use Rattle.ck_script.specs.declared.line.UpLine.TheVariants.{Call, Hold}
 use Rattle.ck_script.specs.declared.line.AskLine.{AskLine}
 use Rattle.ck_script.specs.Script.{said_of, updates, queries}
 use Rattle.ck_script.specs.Checks.{is_hold_beyond, first_fault, first_wait_beyond, range_fault}
-use Rattle.ck_pool.specs.declared.query.QueryRun.{QueryRun}
+use Rattle.ck_pool.specs.Limits.{most_query_files}
+use Rattle.ck_pool.specs.declared.query_run.QueryRun.{QueryRun}
 use Rattle.ck_pool.specs.Meaning.{EyeMeaning}
 use Rattle.ck_pool.specs.Runs.{HoldsReader, HoldReaders}
-use Rattle.ck_pool.specs.Served.{AreServed, AreNumbered, AreReady, lines_of}
-use Rattle.ck_pool.specs.Working.{IsRun, numbers_below}
+use Rattle.ck_pool.specs.Served.{AreServed, AreInOrder, AreReady, lines_of}
+use Rattle.ck_pool.specs.Working.{IsQueryRun, numbers_below}
 use Rattle.ck_pool.proofs.Running.{some_same}
 use Rattle.ck_pool.proofs.Files.{each_all, take_get, served_snoc, served_is}
 
@@ -56,7 +57,7 @@ module _ {E A B : Type 0} (meaning : EyeMeaning E A B) (eyes : List E) (asks : L
   abbrev files : List (List (Numbered (AskLine A)))
   files = map (λ (file : Vec (Numbered (AskLine A)) Global). file.items) asks
 
-  pub served_step : (i : ℕ) (r : QueryRun E B) (h : IsRun meaning eyes asks r) (backs backs' : List E) (given given' : List (Vec B Global)) → r.file ≡ i → r.waits_at ≡ None → backs' ≡ backs ++ r.eye ∷ [] → given' ≡ given ++ r.answers ∷ []
+  pub served_step : (i : ℕ) (r : QueryRun E B) (h : IsQueryRun meaning eyes asks r) (backs backs' : List E) (given given' : List (Vec B Global)) → r.file ≡ i → r.waits_at ≡ None → backs' ≡ backs ++ r.eye ∷ [] → given' ≡ given ++ r.answers ∷ []
       → AreServed meaning (take i eyes) (take i files) backs (map (λ file. file.items) given)
       → AreServed meaning (take (i + 1) eyes) (take (i + 1) files) backs' (map (λ file. file.items) given')
   served_step i r h backs backs' given given' at ended p q all =
@@ -114,14 +115,14 @@ in_range_readers ups asks readers le none =
 
 -- eyes that are numbered in order
 module _ {E A B : Type 0} (meaning : EyeMeaning E A B) where
-  pub enough_readers : (readers n : ℕ) (es : List E) → ((e : E) → meaning.ready e → meaning.number e < readers) → AreReady meaning es → AreNumbered meaning n es → 1 ≤ length es → n + length es ≤ readers
+  pub enough_readers : (readers n : ℕ) (es : List E) → ((e : E) → meaning.ready e → meaning.number e < readers) → AreReady meaning es → AreInOrder meaning n es → 1 ≤ length es → n + length es ≤ readers
   enough_readers readers n [] law ready numbered some = absurd (omega arith)
   enough_readers readers n (e ∷ []) law ready numbered some =
       let lt = law e (ready 0 e refl).0 in let is = numbered.0 in omega arith
   enough_readers readers n (e ∷ d ∷ es) law ready numbered some =
       let h = enough_readers readers (n + 1) (d ∷ es) law (λ f x is. ready (suc f) x is) numbered.1 (omega arith) in omega arith
 
-  pub numbered_back : (n : ℕ) (es : List E) (files : List (List (Numbered (AskLine A)))) (backs : List E) (bss : List (List B)) → AreServed meaning es files backs bss → AreNumbered meaning n es → AreNumbered meaning n backs
+  pub numbered_back : (n : ℕ) (es : List E) (files : List (List (Numbered (AskLine A)))) (backs : List E) (bss : List (List B)) → AreServed meaning es files backs bss → AreInOrder meaning n es → AreInOrder meaning n backs
   numbered_back n [] [] [] [] all numbered = tt
   numbered_back n [] [] [] (w ∷ bss) all numbered = absurd all
   numbered_back n [] [] (z ∷ backs) bss all numbered = absurd all
@@ -148,5 +149,5 @@ numbers_long (suc n) = let h = numbers_long n in let two : length (numbers_below
 pub fresh_sent : (t : Table (Unit {0})) (p : Token) → p ≡ fresh t 0 → ((state p).calls ≡ 0) × ((state p).sent ≡ [])
 fresh_sent t p e = subst (λ (x : Token). ((state x).calls ≡ 0) × ((state x).sent ≡ [])) (sym e) (refl, refl)
 
-pub ring_room : (words : List ℕ) → words ≡ replicate (2 ^ 7 + 2) 0 → 64 < length words - 2
+pub ring_room : (words : List ℕ) → words ≡ replicate (2 ^ 7 + 2) 0 → most_query_files < length words - 2
 ring_room words e = let zero : ℕ = 0 in let long : length words ≡ 2 ^ 7 + 2 = ap length e ∙ length-replicate (2 ^ 7 + 2) zero in omega arith

@@ -12,16 +12,16 @@ use Rattle.ck_script.specs.declared.line.AskLine.TheVariants.{Wait}
 use Rattle.ck_history.specs.declared.event.WriterEvent.{WriterEvent}
 use Rattle.ck_history.specs.declared.event.WriterEvent.TheVariants.{Told}
 use Rattle.ck_script.specs.declared.line.UpLine.{UpLine}
-use Rattle.ck_pool.specs.Runs.{unmet, met, QueryLineRan, QueriesRan, told, UpdateLineRan, UpdatesRan, HoldsReader, HoldReaders}
+use Rattle.ck_pool.specs.Runs.{short_loads, final_load, QueryLineRan, QueriesRan, answer_loads, UpdateLineRan, UpdatesRan, HoldsReader, HoldReaders}
 use Rattle.ck_pool.specs.Working.{IsHalted, RanTo}
 
 module _ {A B : Type 0} where
-  unmet_snoc : (n m : ℕ) (ms : List ℕ) → unmet {A = A} {B = B} n ms ++ Reached n (Err m) ∷ [] ≡ unmet n (ms ++ m ∷ [])
-  unmet_snoc n m [] = refl
-  unmet_snoc n m (k ∷ ms) = ap (λ l. Reached n (Err k) ∷ l) (unmet_snoc n m ms)
+  short_loads_snoc : (n m : ℕ) (ms : List ℕ) → short_loads {A = A} {B = B} n ms ++ Reached n (Err m) ∷ [] ≡ short_loads n (ms ++ m ∷ [])
+  short_loads_snoc n m [] = refl
+  short_loads_snoc n m (k ∷ ms) = ap (λ l. Reached n (Err k) ∷ l) (short_loads_snoc n m ms)
 
-  pub one_more : (done : List (ReaderEvent A B)) (n m : ℕ) (ms : List ℕ) → (done ++ unmet n ms) ++ Reached n (Err m) ∷ [] ≡ done ++ unmet n (ms ++ m ∷ [])
-  one_more done n m ms = append_assoc done (unmet n ms) (Reached n (Err m) ∷ []) ∙ ap (λ l. done ++ l) (unmet_snoc n m ms)
+  pub one_more_load : (done : List (ReaderEvent A B)) (n m : ℕ) (ms : List ℕ) → (done ++ short_loads n ms) ++ Reached n (Err m) ∷ [] ≡ done ++ short_loads n (ms ++ m ∷ [])
+  one_more_load done n m ms = append_assoc done (short_loads n ms) (Reached n (Err m) ∷ []) ∙ ap (λ l. done ++ l) (short_loads_snoc n m ms)
 
   pub asks_snoc : (ls : List (Numbered (AskLine A))) (l : Numbered (AskLine A)) (ds d : List (ReaderEvent A B)) (bs b : List B) → QueriesRan ls ds bs → QueryLineRan l.what d b → QueriesRan (ls ++ l ∷ []) (ds ++ d) (bs ++ b)
   asks_snoc [] l ds d bs b h line = (d, [], b, [], ap (λ x. x ++ d) h.0 ∙ sym (append-nil d), ap (λ x. x ++ b) h.1 ∙ sym (append-nil b), line, (refl, refl))
@@ -29,12 +29,12 @@ module _ {A B : Type 0} where
       (e, rest ++ d, c, more ++ b, ap (λ z. z ++ d) p ∙ append_assoc e rest d, ap (λ z. z ++ b) q ∙ append_assoc c more b, first, asks_snoc ls l rest d more b later line)
 
 module _ {C R : Type 0} where
-  told_snoc : (r m : ℕ) (ms : List ℕ) → told {C = C} {R = R} r ms ++ Told r m ∷ [] ≡ told r (ms ++ m ∷ [])
-  told_snoc r m [] = refl
-  told_snoc r m (k ∷ ms) = ap (λ l. Told r k ∷ l) (told_snoc r m ms)
+  answer_loads_snoc : (r m : ℕ) (ms : List ℕ) → answer_loads {C = C} {R = R} r ms ++ Told r m ∷ [] ≡ answer_loads r (ms ++ m ∷ [])
+  answer_loads_snoc r m [] = refl
+  answer_loads_snoc r m (k ∷ ms) = ap (λ l. Told r k ∷ l) (answer_loads_snoc r m ms)
 
-  pub one_more_told : (done : List (WriterEvent C R)) (r m : ℕ) (ms : List ℕ) → (done ++ told r ms) ++ Told r m ∷ [] ≡ done ++ told r (ms ++ m ∷ [])
-  one_more_told done r m ms = append_assoc done (told r ms) (Told r m ∷ []) ∙ ap (λ l. done ++ l) (told_snoc r m ms)
+  pub one_more_answer_load : (done : List (WriterEvent C R)) (r m : ℕ) (ms : List ℕ) → (done ++ answer_loads r ms) ++ Told r m ∷ [] ≡ done ++ answer_loads r (ms ++ m ∷ [])
+  one_more_answer_load done r m ms = append_assoc done (answer_loads r ms) (Told r m ∷ []) ∙ ap (λ l. done ++ l) (answer_loads_snoc r m ms)
 
   pub updates_snoc : (ls : List (Numbered (UpLine C))) (l : Numbered (UpLine C)) (ds d : List (WriterEvent C R)) (rs r : List R) → UpdatesRan ls ds rs → UpdateLineRan l.what d r → UpdatesRan (ls ++ l ∷ []) (ds ++ d) (rs ++ r)
   updates_snoc [] l ds d rs r h line = (d, [], r, [], ap (λ x. x ++ d) h.0 ∙ sym (append-nil d), ap (λ x. x ++ r) h.1 ∙ sym (append-nil r), line, (refl, refl))
@@ -78,37 +78,37 @@ wait_same x n m e f = cc
 
 -- a file that stands at a `wait`, and what another load does
 module _ {A B : Type 0} where
-  unmet_more : (n : ℕ) (xs ys : List ℕ) → unmet {A = A} {B = B} n xs ++ unmet n ys ≡ unmet n (xs ++ ys)
-  unmet_more n [] ys = refl
-  unmet_more n (x ∷ xs) ys = ap (λ l. Reached n (Err x) ∷ l) (unmet_more n xs ys)
+  short_loads_append : (n : ℕ) (xs ys : List ℕ) → short_loads {A = A} {B = B} n xs ++ short_loads n ys ≡ short_loads n (xs ++ ys)
+  short_loads_append n [] ys = refl
+  short_loads_append n (x ∷ xs) ys = ap (λ l. Reached n (Err x) ∷ l) (short_loads_append n xs ys)
 
-  pub stands_first : (lines : List (Numbered (AskLine A))) (i : ℕ) (ds : List (ReaderEvent A B)) (bs : List B) (n m : ℕ) (line : Numbered (AskLine A)) → slice_get lines i ≡ Some line → line.what ≡ Wait n → QueriesRan (take i lines) ds bs → IsHalted lines i (ds ++ unmet n (m ∷ [])) bs
+  pub stands_first : (lines : List (Numbered (AskLine A))) (i : ℕ) (ds : List (ReaderEvent A B)) (bs : List B) (n m : ℕ) (line : Numbered (AskLine A)) → slice_get lines i ≡ Some line → line.what ≡ Wait n → QueriesRan (take i lines) ds bs → IsHalted lines i (ds ++ short_loads n (m ∷ [])) bs
   stands_first lines i ds bs n m line here is ran = record { before = ds; counts = m ∷ []; n = n; line = line; here = here; waits = is; whole = refl; ran = ran }
 
-  pub stands_more : (lines : List (Numbered (AskLine A))) (i : ℕ) (ds : List (ReaderEvent A B)) (bs : List B) (n m : ℕ) (line : Numbered (AskLine A)) → slice_get lines i ≡ Some line → line.what ≡ Wait n → IsHalted lines i ds bs → IsHalted lines i (ds ++ unmet n (m ∷ [])) bs
+  pub stands_more : (lines : List (Numbered (AskLine A))) (i : ℕ) (ds : List (ReaderEvent A B)) (bs : List B) (n m : ℕ) (line : Numbered (AskLine A)) → slice_get lines i ≡ Some line → line.what ≡ Wait n → IsHalted lines i ds bs → IsHalted lines i (ds ++ short_loads n (m ∷ [])) bs
   stands_more lines i ds bs n m line here is s =
       let one : line ≡ s.line = some_same line s.line (sym here ∙ s.here) in
       let same : n ≡ s.n = wait_same line.what n s.n is (ap (λ (l : Numbered (AskLine A)). l.what) one ∙ s.waits) in
-      let grown : ds ++ unmet n (m ∷ []) ≡ s.before ++ unmet s.n (s.counts ++ m ∷ []) = ap (λ (k : ℕ). ds ++ unmet k (m ∷ [])) same ∙ (ap (λ (x : List (ReaderEvent A B)). x ++ unmet s.n (m ∷ [])) s.whole ∙ one_more s.before s.n m s.counts) in
+      let grown : ds ++ short_loads n (m ∷ []) ≡ s.before ++ short_loads s.n (s.counts ++ m ∷ []) = ap (λ (k : ℕ). ds ++ short_loads k (m ∷ [])) same ∙ (ap (λ (x : List (ReaderEvent A B)). x ++ short_loads s.n (m ∷ [])) s.whole ∙ one_more_load s.before s.n m s.counts) in
       record { before = s.before; counts = s.counts ++ m ∷ []; n = s.n; line = s.line; here = s.here; waits = s.waits; whole = grown; ran = s.ran }
 
-  joined_loads : (before : List (ReaderEvent A B)) (n : ℕ) (xs ys : List ℕ) → (before ++ unmet n xs) ++ (unmet n ys ++ met n ∷ []) ≡ before ++ (unmet n (xs ++ ys) ++ met n ∷ [])
-  joined_loads before n xs ys = append_assoc before (unmet n xs) (unmet n ys ++ met n ∷ []) ∙ ap (λ (z : List (ReaderEvent A B)). before ++ z) (sym (append_assoc (unmet n xs) (unmet n ys) (met n ∷ [])) ∙ ap (λ (z : List (ReaderEvent A B)). z ++ met n ∷ []) (unmet_more n xs ys))
+  joined_loads : (before : List (ReaderEvent A B)) (n : ℕ) (xs ys : List ℕ) → (before ++ short_loads n xs) ++ (short_loads n ys ++ final_load n ∷ []) ≡ before ++ (short_loads n (xs ++ ys) ++ final_load n ∷ [])
+  joined_loads before n xs ys = append_assoc before (short_loads n xs) (short_loads n ys ++ final_load n ∷ []) ∙ ap (λ (z : List (ReaderEvent A B)). before ++ z) (sym (append_assoc (short_loads n xs) (short_loads n ys) (final_load n ∷ [])) ∙ ap (λ (z : List (ReaderEvent A B)). z ++ final_load n ∷ []) (short_loads_append n xs ys))
 
   pub stands_met : (lines : List (Numbered (AskLine A))) (i : ℕ) (ds d : List (ReaderEvent A B)) (bs b : List B) (line : Numbered (AskLine A)) → slice_get lines i ≡ Some line → take (i + 1) lines ≡ take i lines ++ line ∷ [] → QueryLineRan line.what d b → IsHalted lines i ds bs → QueriesRan (take (i + 1) lines) (ds ++ d) (bs ++ b)
   stands_met lines i ds d bs b line here taken ran s =
       let one : line ≡ s.line = some_same line s.line (sym here ∙ s.here) in
       let is : line.what ≡ Wait s.n = ap (λ (l : Numbered (AskLine A)). l.what) one ∙ s.waits in
       let wait : QueryLineRan (Wait s.n) d b = subst (λ (l : AskLine A). QueryLineRan l d b) is ran in
-      let whole : ds ++ d ≡ s.before ++ (unmet s.n (s.counts ++ wait.0) ++ met s.n ∷ []) = ap (λ (x : List (ReaderEvent A B)). ds ++ x) wait.1 ∙ (ap (λ (x : List (ReaderEvent A B)). x ++ (unmet s.n wait.0 ++ met s.n ∷ [])) s.whole ∙ joined_loads s.before s.n s.counts wait.0) in
-      let at_line : QueryLineRan line.what (unmet s.n (s.counts ++ wait.0) ++ met s.n ∷ []) b = subst (λ (l : AskLine A). QueryLineRan l (unmet s.n (s.counts ++ wait.0) ++ met s.n ∷ []) b) (sym is) (s.counts ++ wait.0, refl, wait.2) in
-      rw (taken, whole) (asks_snoc (take i lines) line s.before (unmet s.n (s.counts ++ wait.0) ++ met s.n ∷ []) bs b s.ran at_line)
+      let whole : ds ++ d ≡ s.before ++ (short_loads s.n (s.counts ++ wait.0) ++ final_load s.n ∷ []) = ap (λ (x : List (ReaderEvent A B)). ds ++ x) wait.1 ∙ (ap (λ (x : List (ReaderEvent A B)). x ++ (short_loads s.n wait.0 ++ final_load s.n ∷ [])) s.whole ∙ joined_loads s.before s.n s.counts wait.0) in
+      let at_line : QueryLineRan line.what (short_loads s.n (s.counts ++ wait.0) ++ final_load s.n ∷ []) b = subst (λ (l : AskLine A). QueryLineRan l (short_loads s.n (s.counts ++ wait.0) ++ final_load s.n ∷ []) b) (sym is) (s.counts ++ wait.0, refl, wait.2) in
+      rw (taken, whole) (asks_snoc (take i lines) line s.before (short_loads s.n (s.counts ++ wait.0) ++ final_load s.n ∷ []) bs b s.ran at_line)
 
   -- the same in the form in which the runners have it
   pub halts : (lines : List (Numbered (AskLine A))) (next i : ℕ) (bs₀ bs bs' : List B) (ds : List (ReaderEvent A B)) (n m : ℕ) (line : Numbered (AskLine A)) → slice_get lines i ≡ Some line → line.what ≡ Wait n → bs' ≡ bs
       → ((before : List (ReaderEvent A B)) → QueriesRan (take next lines) before bs₀ → QueriesRan (take i lines) (before ++ ds) bs)
-      → (before : List (ReaderEvent A B)) → QueriesRan (take next lines) before bs₀ → IsHalted lines i (before ++ (ds ++ unmet n (m ∷ []))) bs'
-  halts lines next i bs₀ bs bs' ds n m line here is same ran before asks = rw (same, sym (append_assoc before ds (unmet n (m ∷ [])))) (stands_first lines i (before ++ ds) bs n m line here is (ran before asks))
+      → (before : List (ReaderEvent A B)) → QueriesRan (take next lines) before bs₀ → IsHalted lines i (before ++ (ds ++ short_loads n (m ∷ []))) bs'
+  halts lines next i bs₀ bs bs' ds n m line here is same ran before asks = rw (same, sym (append_assoc before ds (short_loads n (m ∷ [])))) (stands_first lines i (before ++ ds) bs n m line here is (ran before asks))
 
   pub goes_on : (lines : List (Numbered (AskLine A))) (next i : ℕ) (bs₀ bs bs' b : List B) (ds d : List (ReaderEvent A B)) (line : Numbered (AskLine A)) → take (i + 1) lines ≡ take i lines ++ line ∷ [] → bs' ≡ bs ++ b → QueryLineRan line.what d b
       → ((before : List (ReaderEvent A B)) → QueriesRan (take next lines) before bs₀ → QueriesRan (take i lines) (before ++ ds) bs)
@@ -116,7 +116,7 @@ module _ {A B : Type 0} where
   goes_on lines next i bs₀ bs bs' b ds d line taken same ran_line ran before asks = rw (taken, same, sym (append_assoc before ds d)) (asks_snoc (take i lines) line (before ++ ds) d bs b (ran before asks) ran_line)
 
   pub halts_again : (lines : List (Numbered (AskLine A))) (i : ℕ) (bs bs' : List B) (n m : ℕ) (line : Numbered (AskLine A)) → slice_get lines i ≡ Some line → line.what ≡ Wait n → bs' ≡ bs
-      → (before : List (ReaderEvent A B)) → IsHalted lines i before bs → IsHalted lines i (before ++ unmet n (m ∷ [])) bs'
+      → (before : List (ReaderEvent A B)) → IsHalted lines i before bs → IsHalted lines i (before ++ short_loads n (m ∷ [])) bs'
   halts_again lines i bs bs' n m line here is same before s = rw same (stands_more lines i before bs n m line here is s)
 
   pub resumes : (lines : List (Numbered (AskLine A))) (i : ℕ) (waits_at : Option ℕ) (bs bs₁ bs₂ b : List B) (d more : List (ReaderEvent A B)) (line : Numbered (AskLine A)) → slice_get lines i ≡ Some line → take (i + 1) lines ≡ take i lines ++ line ∷ [] → QueryLineRan line.what d b → bs₁ ≡ bs ++ b

@@ -19,8 +19,8 @@ use Rattle.ck_snap.specs.Places.{Writing, log_of_events, ArePlacedIn}
 use Rattle.ck_snap.specs.Tokens.{Dictionary, PassView, fresh_pass, AreFreshSnapPasses, look_of}
 use Rattle.ck_pool.specs.Runs.{UpdatesRan}
 use Rattle.ck_pool.specs.Places.{AreUnused, AllPlaced}
-use Rattle.ck_pool.specs.Served.{AreReady, AreNumbered, AreServed}
-use Rattle.ck_pool.specs.Snapshots.{snap_eye, AreTied}
+use Rattle.ck_pool.specs.Served.{AreReady, AreInOrder, AreServed}
+use Rattle.ck_pool.specs.Snapshots.{snap_eye, AllPlacedIn}
 use Rattle.ck_pool.proofs.Running.{some_same}
 use Rattle.ck_pool.proofs.Composing.{HoldsKept, calls_ran, files_legal}
 
@@ -43,7 +43,7 @@ places_from [] f = []
 places_from (p ∷ ps) zero = p.places
 places_from (p ∷ ps) (suc f) = places_from ps f
 
-passes_placed : (snap : Dictionary) (log : Log) (places : ℕ → List ℕ) (f : ℕ) (ps : List PassView) → ((j : ℕ) → places (f + j) ≡ places_from ps j) → AreTied log ps
+passes_placed : (snap : Dictionary) (log : Log) (places : ℕ → List ℕ) (f : ℕ) (ps : List PassView) → ((j : ℕ) → places (f + j) ≡ places_from ps j) → AllPlacedIn log ps
     → AllPlaced (snap_eye snap) (length log) (answer_after nat_cmp most_pairs (updates log)) places f ps
 passes_placed snap log places f [] same tied = tt
 passes_placed snap log places f (p ∷ ps) same tied =
@@ -81,7 +81,7 @@ module _ (snap : Dictionary) (ups : List (Numbered (UpLine (Update ℕ)))) (done
       ∙ ap (λ (u : List (Update ℕ)). after_from nat_cmp most_pairs [] u) (sym (take_all (length asked) asked (omega arith)))
 
   pub snap_legal : (es : List PassView) (asks : List (List (Numbered (AskLine ℕ)))) (backs : List PassView) (bss : List (List (Option ℕ)))
-      → holds 0 (said_of ups) ≡ [] → AreUnused (snap_eye snap) es → AreServed (snap_eye snap) es asks backs bss → AreTied (log_of_events done) backs
+      → holds 0 (said_of ups) ≡ [] → AreUnused (snap_eye snap) es → AreServed (snap_eye snap) es asks backs bss → AllPlacedIn (log_of_events done) backs
       → AllLegal (length asked) (answer_after nat_cmp most_pairs asked) (bounded_files (length asked) (holds 0 (said_of ups)) 1 (map said_of asks)) bss
   snap_legal es asks backs bss no_hold unused served tied =
       let log = log_of_events done in
@@ -96,12 +96,12 @@ module _ (snap : Dictionary) (ups : List (Numbered (UpLine (Update ℕ)))) (done
       subst (λ (u : List (Update ℕ)). AllLegal (length u) (answer_after nat_cmp most_pairs u) (bounded_files (length u) hs 1 (map said_of asks)) bss) (sym made) counted
 
 -- one more pass that is tied
-tied_at : (log : Log) (ps : List PassView) (p : PassView) → ArePlacedIn log p.done p.places → AreTied log ps → AreTied log (ps ++ p ∷ [])
+tied_at : (log : Log) (ps : List PassView) (p : PassView) → ArePlacedIn log p.done p.places → AllPlacedIn log ps → AllPlacedIn log (ps ++ p ∷ [])
 tied_at log [] p placed tied = (placed, tt)
 tied_at log (q ∷ ps) p placed tied = (tied.0, tied_at log ps p placed tied.1)
 
-pub tied_snoc : (log : Log) (ps qs : List PassView) (p : PassView) → qs ≡ ps ++ p ∷ [] → ArePlacedIn log p.done p.places → AreTied log ps → AreTied log qs
-tied_snoc log ps qs p whole placed tied = subst (λ (l : List PassView). AreTied log l) (sym whole) (tied_at log ps p placed tied)
+pub tied_snoc : (log : Log) (ps qs : List PassView) (p : PassView) → qs ≡ ps ++ p ∷ [] → ArePlacedIn log p.done p.places → AllPlacedIn log ps → AllPlacedIn log qs
+tied_snoc log ps qs p whole placed tied = subst (λ (l : List PassView). AllPlacedIn log l) (sym whole) (tied_at log ps p placed tied)
 
 -- the passes of a new dictionary are ready and numbered, and nothing was done with them
 pub fresh_ready : (snap : Dictionary) (n : ℕ) (ps : List PassView) → n + length ps ≤ snap.readers → AreFreshSnapPasses snap n ps → AreReady (snap_eye snap) ps
@@ -116,7 +116,7 @@ fresh_ready snap n (p ∷ ps) le fresh zero e is =
     )
 fresh_ready snap n (p ∷ ps) le fresh (suc f) e is = fresh_ready snap (n + 1) ps (omega arith) fresh.1 f e is
 
-pub fresh_numbered : (snap : Dictionary) (n : ℕ) (ps : List PassView) → AreFreshSnapPasses snap n ps → AreNumbered (snap_eye snap) n ps
+pub fresh_numbered : (snap : Dictionary) (n : ℕ) (ps : List PassView) → AreFreshSnapPasses snap n ps → AreInOrder (snap_eye snap) n ps
 fresh_numbered snap n [] fresh = tt
 fresh_numbered snap n (p ∷ ps) fresh = (ap (λ (x : PassView). x.number) fresh.0, fresh_numbered snap (n + 1) ps fresh.1)
 

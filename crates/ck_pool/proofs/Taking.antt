@@ -12,25 +12,13 @@ use Rattle.atomic_table.specs.Table.{State, Me, Act, Valid, Allows, Splits, Join
 use Rattle.atomic_table.specs.Seated.{TableId}
 use Rattle.atomic_table.proofs.Lists.{at_set, at_snoc, set_else, set_again}
 use Rattle.ck_pool.specs.declared.known.Known.{Known}
-use Rattle.ck_pool.specs.Desk.{occurrences, total, all_parts, IsDesk, Took, GaveBack, first_known, fewer, one_part, joined, spent, DeskView, ClerkView, IsClerkOf}
+use Rattle.ck_run.specs.Rule.{total}
+use Rattle.ck_run.proofs.Keeps.{total-set, total-snoc, term_le}
+use Rattle.ck_pool.specs.Desk.{occurrences, all_parts, IsDesk, TookEye, GaveBack, first_known, fewer, one_part, known_of_both, spent, DeskView, ClerkView, IsClerkOf}
 use Rattle.std.proofs.Math.ListN.{length-set}
 
 -- sums over all views
 module _ {V : Type 0} where
-  total_set : (f : V → ℕ) (vs : List V) (i : ℕ) (v w : V) → get_elem? vs i ≡ some v → total f (set vs i w) + f v ≡ total f vs + f w
-  total_set f [] i v w e = absurd (some-ne-none v (sym e))
-  total_set f (x ∷ xs) zero v w e = let h : f x ≡ f v = ap f (some-injective x v e) in omega arith
-  total_set f (x ∷ xs) (suc i) v w e = let h = total_set f xs i v w e in omega arith
-
-  total_snoc : (f : V → ℕ) (vs : List V) (w : V) → total f (vs ++ w ∷ []) ≡ total f vs + f w
-  total_snoc f [] w = omega arith
-  total_snoc f (x ∷ xs) w = let h = total_snoc f xs w in omega arith
-
-  le_total : (f : V → ℕ) (vs : List V) (i : ℕ) (v : V) → get_elem? vs i ≡ some v → f v ≤ total f vs
-  le_total f [] i v e = absurd (some-ne-none v (sym e))
-  le_total f (x ∷ xs) zero v e = let h : f x ≡ f v = ap f (some-injective x v e) in omega arith
-  le_total f (x ∷ xs) (suc i) v e = let h = le_total f xs i v e in omega arith
-
   all_idle : (p f : V → ℕ) (vs : List V) → total p vs ≡ 0 → ((i : ℕ) (u : V) → get_elem? vs i ≡ some u → p u ≡ 0 → f u ≡ 0) → total f vs ≡ 0
   all_idle p f [] none idle = refl
   all_idle p f (x ∷ xs) none idle =
@@ -48,7 +36,7 @@ module _ {V : Type 0} where
       let rest : total f xs ≡ 0 = all_idle p f xs (omega arith) (λ j u h. idle (suc j) u h) in
       omega arith
   only_one p f (x ∷ xs) (suc i) v e all idle =
-      let le : p v ≤ total p xs = le_total p xs i v e in
+      let le : p v ≤ total p xs = term_le p xs i v e in
       let here : f x ≡ 0 = idle zero x refl (omega arith) in
       let rest : total f xs ≡ f v = only_one p f xs i v e (omega arith) (λ j u h. idle (suc j) u h) in
       omega arith
@@ -117,7 +105,7 @@ module _ {E : Type 0} where
       → (b : Bool) → (get_or s.words f 0 == 0) ≡ b
       → (w : Known E) × (a : Act (Option E)) × Valid s.homes c a
       × IsDesk eyes (stepped s f (either (get_or s.words f 0 == 0) 1 (get_or s.words f 0)) seat c w a)
-      × Took f (v, c) (get_or s.words f 0) (w, carried_after c a)
+      × TookEye f (v, c) (get_or s.words f 0) (w, carried_after c a)
   takes_at eyes seat f v c s h lt mine part seen true is =
       let none_took : get_or s.words f 0 ≡ 0 = grind (arith, nat_tests) in
       let here = there_at eyes f lt in
@@ -135,7 +123,7 @@ module _ {E : Type 0} where
               (λ q. absurd (let one : get_or (set s.words f 1) k 0 ≡ 1 = subst (λ (j : ℕ). get_or (set s.words f 1) j 0 ≡ 1) (sym q) (word_here s.words f 1 in_words) in omega arith))
               (λ ne. set_else s.homes f k _ ne ∙ h.home k z (sym (word_else s.words f 1 k ne) ∙ none) at);
           once = λ k.
-              let t : total (λ u. occurrences k u.took) (set s.views seat w) + occurrences k v.took ≡ total (λ u. occurrences k u.took) s.views + occurrences k (f ∷ v.took) = total_set (λ u. occurrences k u.took) s.views seat v w seen in
+              let t : total (λ u. occurrences k u.took) (set s.views seat w) + occurrences k v.took ≡ total (λ u. occurrences k u.took) s.views + occurrences k (f ∷ v.took) = total-set (λ u. occurrences k u.took) s.views seat v w seen in
               let o : total (λ u. occurrences k u.took) s.views ≡ get_or s.words k 0 = h.once k in
               dite (ℕ_discrete k f)
               (λ q. let m : occurrences k (f ∷ v.took) ≡ 1 + occurrences k v.took = subst (λ (j : ℕ). occurrences j (f ∷ v.took) ≡ 1 + occurrences j v.took) (sym q) (times_here f v.took) in
@@ -145,7 +133,7 @@ module _ {E : Type 0} where
               (λ ne. let m : occurrences k (f ∷ v.took) ≡ occurrences k v.took = times_else f k v.took (λ q. ne (sym q)) in
               let same : get_or (set s.words f 1) k 0 ≡ get_or s.words k 0 = word_else s.words f 1 k ne in
               omega arith);
-          parts = let t : total (λ u. u.parts) (set s.views seat w) + v.parts ≡ total (λ u. u.parts) s.views + v.parts = total_set (λ u. u.parts) s.views seat v w seen in let o = h.parts in omega arith;
+          parts = let t : total (λ u. u.parts) (set s.views seat w) + v.parts ≡ total (λ u. u.parts) s.views + v.parts = total-set (λ u. u.parts) s.views seat v w seen in let o = h.parts in omega arith;
           same = after_set (Same eyes) s.views seat w (λ p. mine) h.same;
           idle = after_set Idle s.views seat w (λ none. absurd (omega arith)) h.idle;
         }),
@@ -169,14 +157,14 @@ module _ {E : Type 0} where
       )
 
   pub takes_slot : (eyes : List E) (slots seat f : ℕ) (me : Me (Option E) (Known E)) → me.0.eyes ≡ eyes → 0 < me.0.parts → f < length eyes
-      → Allows (IsDesk eyes) slots seat me f (λ n. either (n == 0) 1 n) (Took f me)
+      → Allows (IsDesk eyes) slots seat me f (λ n. either (n == 0) 1 n) (TookEye f me)
   takes_slot eyes slots seat f (v, c) mine part lt s h len seen below = takes_at eyes seat f v c s h lt mine part seen (get_or s.words f 0 == 0) refl
 
   pub gives_slot : (eyes : List E) (slots seat f : ℕ) (v : Known E) (x : Option E) → 0 < occurrences f v.took
       → Allows (IsDesk eyes) slots seat (v, (f, x) ∷ []) f (λ n. n) (λ n w. GaveBack (v, (f, x) ∷ []) w)
   gives_slot eyes slots seat f v x taken s h len seen below =
       let o : total (λ u. occurrences f u.took) s.views ≡ get_or s.words f 0 = h.once f in
-      let le : occurrences f v.took ≤ total (λ u. occurrences f u.took) s.views = le_total (λ u. occurrences f u.took) s.views seat v seen in
+      let le : occurrences f v.took ≤ total (λ u. occurrences f u.took) s.views = term_le (λ u. occurrences f u.took) s.views seat v seen in
       let some_word : get_or s.words f 0 ≢ 0 = λ q. absurd (omega arith) in (
         v,
         gives,
@@ -202,36 +190,36 @@ module _ {E : Type 0} where
     bits = h.bits;
     home = h.home;
     once = λ k.
-        let a : total (λ u. occurrences k u.took) (set s.views seat (fewer v) ++ one_part v ∷ []) ≡ total (λ u. occurrences k u.took) (set s.views seat (fewer v)) + 0 = total_snoc (λ u. occurrences k u.took) (set s.views seat (fewer v)) (one_part v) in
-        let t : total (λ u. occurrences k u.took) (set s.views seat (fewer v)) + occurrences k v.took ≡ total (λ u. occurrences k u.took) s.views + occurrences k v.took = total_set (λ u. occurrences k u.took) s.views seat v (fewer v) seen in
+        let a : total (λ u. occurrences k u.took) (set s.views seat (fewer v) ++ one_part v ∷ []) ≡ total (λ u. occurrences k u.took) (set s.views seat (fewer v)) + 0 = total-snoc (λ u. occurrences k u.took) (set s.views seat (fewer v)) (one_part v) in
+        let t : total (λ u. occurrences k u.took) (set s.views seat (fewer v)) + occurrences k v.took ≡ total (λ u. occurrences k u.took) s.views + occurrences k v.took = total-set (λ u. occurrences k u.took) s.views seat v (fewer v) seen in
         let o = h.once k in
         omega arith;
     parts =
-        let a : total (λ u. u.parts) (set s.views seat (fewer v) ++ one_part v ∷ []) ≡ total (λ u. u.parts) (set s.views seat (fewer v)) + 1 = total_snoc (λ u. u.parts) (set s.views seat (fewer v)) (one_part v) in
-        let t : total (λ u. u.parts) (set s.views seat (fewer v)) + v.parts ≡ total (λ u. u.parts) s.views + (v.parts - 1) = total_set (λ u. u.parts) s.views seat v (fewer v) seen in
+        let a : total (λ u. u.parts) (set s.views seat (fewer v) ++ one_part v ∷ []) ≡ total (λ u. u.parts) (set s.views seat (fewer v)) + 1 = total-snoc (λ u. u.parts) (set s.views seat (fewer v)) (one_part v) in
+        let t : total (λ u. u.parts) (set s.views seat (fewer v)) + v.parts ≡ total (λ u. u.parts) s.views + (v.parts - 1) = total-set (λ u. u.parts) s.views seat v (fewer v) seen in
         let o = h.parts in
         omega arith;
     same = after_snoc (Same eyes) (set s.views seat (fewer v)) (one_part v) (λ p. mine) (after_set (Same eyes) s.views seat (fewer v) (λ p. mine) h.same);
     idle = after_snoc Idle (set s.views seat (fewer v)) (one_part v) (λ p. refl) (after_set Idle s.views seat (fewer v) (λ none. absurd (omega arith)) h.idle);
   }
 
-  pub joins_in : (eyes : List E) (seat other : ℕ) (v w : Known E) → v.eyes ≡ eyes → 0 < v.parts → Joins (IsDesk eyes) seat v other w (joined v w) spent
+  pub joins_in : (eyes : List E) (seat other : ℕ) (v w : Known E) → v.eyes ≡ eyes → 0 < v.parts → Joins (IsDesk eyes) seat v other w (known_of_both v w) spent
   joins_in eyes seat other v w mine part s h seen apart there =
-      let both = joined v w in
+      let both = known_of_both v w in
       let views' = set s.views seat both in
       record {
         words = h.words;
         bits = h.bits;
         home = h.home;
         once = λ k.
-            let t : total (λ u. occurrences k u.took) (set s.views seat (joined v w)) + occurrences k v.took ≡ total (λ u. occurrences k u.took) s.views + occurrences k (v.took ++ w.took) = total_set (λ u. occurrences k u.took) s.views seat v (joined v w) seen in
+            let t : total (λ u. occurrences k u.took) (set s.views seat (known_of_both v w)) + occurrences k v.took ≡ total (λ u. occurrences k u.took) s.views + occurrences k (v.took ++ w.took) = total-set (λ u. occurrences k u.took) s.views seat v (known_of_both v w) seen in
             let m : occurrences k (v.took ++ w.took) ≡ occurrences k v.took + occurrences k w.took = times_append k v.took w.took in
-            let u : total (λ u. occurrences k u.took) (set (set s.views seat (joined v w)) other spent) + occurrences k w.took ≡ total (λ u. occurrences k u.took) (set s.views seat (joined v w)) + 0 = total_set (λ u. occurrences k u.took) (set s.views seat (joined v w)) other w spent there in
+            let u : total (λ u. occurrences k u.took) (set (set s.views seat (known_of_both v w)) other spent) + occurrences k w.took ≡ total (λ u. occurrences k u.took) (set s.views seat (known_of_both v w)) + 0 = total-set (λ u. occurrences k u.took) (set s.views seat (known_of_both v w)) other w spent there in
             let o = h.once k in
             omega arith;
         parts =
-            let t : total (λ u. u.parts) (set s.views seat (joined v w)) + v.parts ≡ total (λ u. u.parts) s.views + (v.parts + w.parts) = total_set (λ u. u.parts) s.views seat v (joined v w) seen in
-            let u : total (λ u. u.parts) (set (set s.views seat (joined v w)) other spent) + w.parts ≡ total (λ u. u.parts) (set s.views seat (joined v w)) + 0 = total_set (λ u. u.parts) (set s.views seat (joined v w)) other w spent there in
+            let t : total (λ u. u.parts) (set s.views seat (known_of_both v w)) + v.parts ≡ total (λ u. u.parts) s.views + (v.parts + w.parts) = total-set (λ u. u.parts) s.views seat v (known_of_both v w) seen in
+            let u : total (λ u. u.parts) (set (set s.views seat (known_of_both v w)) other spent) + w.parts ≡ total (λ u. u.parts) (set s.views seat (known_of_both v w)) + 0 = total-set (λ u. u.parts) (set s.views seat (known_of_both v w)) other w spent there in
             let o = h.parts in
             omega arith;
         same = after_set (Same eyes) views' other spent (λ p. absurd (omega arith)) (after_set (Same eyes) s.views seat both (λ p. mine) h.same);
@@ -264,10 +252,10 @@ module _ {E : Type 0} where
       let k₀ : ClerkView E = record { id = id'; known = v } in
       subst (λ (x : DeskView E). IsClerkOf x k₀) (sym p) (subst (λ (y : ClerkView E). IsClerkOf d y) (sym q) h)
 
-  pub took_one : (f found : ℕ) (m w : Me (Option E) (Known E)) → found ≡ 0 → Took f m found w → (e : E) × (slice_get m.0.eyes f ≡ Some e) × (w ≡ (record m.0 { took = f ∷ m.0.took }, (f, Some e) ∷ m.1))
-  took_one f found m w none h = subst (λ (n : ℕ). Took f m n w) none h
+  pub took_one : (f found : ℕ) (m w : Me (Option E) (Known E)) → found ≡ 0 → TookEye f m found w → (e : E) × (slice_get m.0.eyes f ≡ Some e) × (w ≡ (record m.0 { took = f ∷ m.0.took }, (f, Some e) ∷ m.1))
+  took_one f found m w none h = subst (λ (n : ℕ). TookEye f m n w) none h
 
-  pub took_none : (f found : ℕ) (m w : Me (Option E) (Known E)) → found ≢ 0 → Took f m found w → (w ≡ m) × (m.0.parts ≡ all_parts → occurrences f m.0.took ≡ 1)
+  pub took_none : (f found : ℕ) (m w : Me (Option E) (Known E)) → found ≢ 0 → TookEye f m found w → (w ≡ m) × (m.0.parts ≡ all_parts → occurrences f m.0.took ≡ 1)
   took_none f found m w some_word h = rw (ne_eqb found 0 some_word) at h
 
   pub gives_slot_at : (eyes : List E) (slots seat f : ℕ) (me : Me (Option E) (Known E)) (v : Known E) (x : Option E) → me ≡ (v, (f, x) ∷ []) → 0 < occurrences f v.took → Allows (IsDesk eyes) slots seat me f (λ n. n) (λ n w. GaveBack me w)

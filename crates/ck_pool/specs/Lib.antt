@@ -1,3 +1,4 @@
+pub mod Limits
 pub mod Meaning
 pub mod Runs
 pub mod Served

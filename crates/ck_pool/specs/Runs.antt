@@ -13,17 +13,17 @@ use Rattle.ck_script.specs.declared.line.AskLine.TheVariants.{Ask, Wait}
 
 module _ {A B : Type 0} where
   -- loads that were asked for n updates and found fewer, each with the number that it found
-  abbrev pub unmet : ℕ → List ℕ → List (ReaderEvent A B)
-  unmet n counts = map (λ count. Reached n (Err count)) counts
+  abbrev pub short_loads : ℕ → List ℕ → List (ReaderEvent A B)
+  short_loads n counts = map (λ count. Reached n (Err count)) counts
 
-  -- a load that was asked for n updates and found them
-  abbrev pub met : ℕ → ReaderEvent A B
-  met n = Reached n (Ok tt)
+  -- the load that ends a wait: it was asked for n updates and found them
+  abbrev pub final_load : ℕ → ReaderEvent A B
+  final_load n = Reached n (Ok tt)
 
   -- the events of one line of a query file, and its answers: that of a query, or none
   abbrev pub QueryLineRan : AskLine A → List (ReaderEvent A B) → List B → Type 0
   QueryLineRan (Ask a) events answers = (b : B) × (events ≡ Answered a b ∷ []) × (answers ≡ b ∷ [])
-  QueryLineRan (Wait n) events answers = (counts : List ℕ) × (events ≡ unmet n counts ++ met n ∷ []) × (answers ≡ [])
+  QueryLineRan (Wait n) events answers = (counts : List ℕ) × (events ≡ short_loads n counts ++ final_load n ∷ []) × (answers ≡ [])
 
   -- The lines of a query file were run in order: each query was answered, and each wait was met. Between these stand only loads that weren't met
   abbrev pub QueriesRan : List (Numbered (AskLine A)) → List (ReaderEvent A B) → List B → Type 0
@@ -42,15 +42,15 @@ HoldReaders readers [] = Unit {0}
 HoldReaders readers (l ∷ ls) = HoldsReader readers l.what × HoldReaders readers ls
 
 module _ {C R : Type 0} where
-  -- loads of how many answers a reader has, each with the number that it gave
-  abbrev pub told : ℕ → List ℕ → List (WriterEvent C R)
-  told reader counts = map (λ count. Told reader count) counts
+  -- loads of how many queries a reader has answered, each with the number that it found
+  abbrev pub answer_loads : ℕ → List ℕ → List (WriterEvent C R)
+  answer_loads reader counts = map (λ count. Told reader count) counts
 
   -- The events of one line of the update file, and its replies. A `hold` line for n answers loads fewer until it loads at least n
   abbrev pub UpdateLineRan : UpLine C → List (WriterEvent C R) → List R → Type 0
   UpdateLineRan (Call c) events replies = (r : R) × (events ≡ Updated c r ∷ []) × (replies ≡ r ∷ [])
   UpdateLineRan (Hold f n) events replies =
-      (counts : List ℕ) × (k : ℕ) × (events ≡ told (f - 1) counts ++ told (f - 1) (k ∷ [])) × All (λ m. m < n) counts × (n ≤ k) × (replies ≡ [])
+      (counts : List ℕ) × (k : ℕ) × (events ≡ answer_loads (f - 1) counts ++ answer_loads (f - 1) (k ∷ [])) × All (λ m. m < n) counts × (n ≤ k) × (replies ≡ [])
 
   -- the lines of the update file were run in order
   abbrev pub UpdatesRan : List (Numbered (UpLine C)) → List (WriterEvent C R) → List R → Type 0

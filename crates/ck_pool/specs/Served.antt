@@ -1,11 +1,15 @@
 -- What `serve` asks of a job, and what it tells of it.
 use Rattle.std.specs.Prelude.{◌≡◌, ℕ, ◌+◌, ◌^◌, ◌<◌, List, [], ◌∷◌, ◌++◌, length, Some, Vec, slice_get}
 use Rattle.std.specs.declared.alloc.Global.{Global}
+use Rattle.ck_history.specs.declared.event.WriterEvent.{WriterEvent}
 use Rattle.ck_history.specs.declared.event.ReaderEvent.{ReaderEvent}
+use Rattle.ck_run.specs.Ends.{EachFrom}
 use Rattle.ck_script.specs.declared.line.Numbered.{Numbered}
+use Rattle.ck_script.specs.declared.line.UpLine.{UpLine}
 use Rattle.ck_script.specs.declared.line.AskLine.{AskLine}
-use Rattle.ck_pool.specs.Meaning.{EyeMeaning}
-use Rattle.ck_pool.specs.Runs.{QueriesRan}
+use Rattle.ck_pool.specs.Limits.{call_bound, start_call_bound}
+use Rattle.ck_pool.specs.Meaning.{HandMeaning, EyeMeaning}
+use Rattle.ck_pool.specs.Runs.{UpdatesRan, QueriesRan}
 
 -- how many lines files have together
 abbrev pub lines_of : {A : Type 0} → List (Vec A Global) → ℕ
@@ -16,22 +20,28 @@ lines_of (file ∷ files) = length file.items + lines_of files
 abbrev pub line_total : {U A : Type 0} → List U → List (Vec A Global) → ℕ
 line_total ups asks = length ups + lines_of asks
 
+module _ {H C R : Type 0} (hands : HandMeaning H C R) where
+  -- The update file of these lines was run with the hand `given`, which is `back` afterwards: the lines in order are what was done with it,
+  -- and these are their replies
+  abbrev pub IsUpdateFileServed : H → List (Numbered (UpLine C)) → H → List R → Type 0
+  IsUpdateFileServed given lines back replies =
+      (events : List (WriterEvent C R)) × (hands.done back ≡ hands.done given ++ events) × UpdatesRan lines events replies
+
 module _ {E A B : Type 0} (eyes : EyeMeaning E A B) where
   -- each eye is ready, and few calls were made with it
   abbrev pub AreReady : List E → Type 0
-  AreReady es = (f : ℕ) (e : E) → slice_get es f ≡ Some e → eyes.ready e × (eyes.calls e < 2 ^ 38)
+  AreReady es = (f : ℕ) (e : E) → slice_get es f ≡ Some e → eyes.ready e × (eyes.calls e < start_call_bound)
 
   -- the eyes have the numbers from n on, in order
-  abbrev pub AreNumbered : ℕ → List E → Type 0
-  AreNumbered n [] = Unit {0}
-  AreNumbered n (e ∷ es) = (eyes.number e ≡ n) × AreNumbered (n + 1) es
+  abbrev pub AreInOrder : ℕ → List E → Type 0
+  AreInOrder = EachFrom (λ n e. eyes.number e ≡ n)
 
-  -- The file of these lines was run with the eye `given`, which came back as `back`: the lines in order are what was done with it,
+  -- The query file of these lines was run with the eye `given`, which came back as `back`: the lines in order are what was done with it,
   -- and these are their answers
-  pub record IsServed (given : E) (lines : List (Numbered (AskLine A))) (back : E) (answers : List B) : Type 0 where
+  pub record IsQueryFileServed (given : E) (lines : List (Numbered (AskLine A))) (back : E) (answers : List B) : Type 0 where
     pub is_ready : eyes.ready back
     pub same : eyes.number back ≡ eyes.number given
-    pub few : eyes.calls back < 2 ^ 39
+    pub few : eyes.calls back < call_bound
     pub events : List (ReaderEvent A B)
     pub grown : eyes.done back ≡ eyes.done given ++ events
     pub ran : QueriesRan lines events answers
@@ -39,5 +49,5 @@ module _ {E A B : Type 0} (eyes : EyeMeaning E A B) where
   -- file by file, in order
   abbrev pub AreServed : List E → List (List (Numbered (AskLine A))) → List E → List (List B) → Type 0
   AreServed [] [] [] [] = Unit {0}
-  AreServed (e ∷ es) (lines ∷ files) (back ∷ backs) (bs ∷ more) = IsServed e lines back bs × AreServed es files backs more
+  AreServed (e ∷ es) (lines ∷ files) (back ∷ backs) (bs ∷ more) = IsQueryFileServed e lines back bs × AreServed es files backs more
   AreServed _ _ _ _ = ⊥

@@ -13,7 +13,7 @@ use Rattle.ck_script.specs.Script.{said_of, Script, script_of}
 use Rattle.ck_snap.specs.Log.{Log, most_pairs}
 use Rattle.ck_snap.specs.Places.{ArePlacedIn}
 use Rattle.ck_snap.specs.Tokens.{Dictionary, WriterView, PassView, IsWriterOf, IsPassOf}
-use Rattle.ck_pool.specs.declared.answered.Answered.{Answered}
+use Rattle.ck_pool.specs.declared.map_results.MapResults.{MapResults}
 use Rattle.ck_pool.specs.Meaning.{HandMeaning, EyeMeaning}
 
 -- what the pool sees of the ends of a snapshot dictionary
@@ -24,16 +24,16 @@ abbrev pub snap_eye : Dictionary → EyeMeaning PassView ℕ (Option ℕ)
 snap_eye snap = record { ready = λ p. IsPassOf snap p; number = λ p. p.number; calls = λ p. p.calls; done = λ p. p.done }
 
 -- each pass is tied to this log: its answers have places in it
-abbrev pub AreTied : Log → List PassView → Type 0
-AreTied log [] = Unit {0}
-AreTied log (p ∷ ps) = ArePlacedIn log p.done p.places × AreTied log ps
+abbrev pub AllPlacedIn : Log → List PassView → Type 0
+AllPlacedIn log [] = Unit {0}
+AllPlacedIn log (p ∷ ps) = ArePlacedIn log p.done p.places × AllPlacedIn log ps
 
 -- what the lines of a job ask for
 abbrev pub job_script : {K : Type 0} → List (Numbered (UpLine (Update K))) → List (Vec (Numbered (AskLine K)) Global) → Script K
 job_script ups asks = script_of (said_of ups) (map said_of (map (λ file. file.items) asks))
 
 -- The replies are those of the map of one thread, the pairs are those of that map after all updates, and the answers of each file are legal
-pub record IsAnswered (script : Script ℕ) (x : Answered) : Type 0 where
+pub record AreMapResults (script : Script ℕ) (x : MapResults) : Type 0 where
   pub replied : x.replies.items ≡ replies nat_cmp most_pairs script.updates
   pub legal : AllLegal (length script.updates) (answer_after nat_cmp most_pairs script.updates) script.files (map (λ file. file.items) x.answers.items)
   pub paired : x.pairs.items ≡ after nat_cmp most_pairs script.updates (length script.updates)

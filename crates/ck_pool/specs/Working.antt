@@ -11,11 +11,12 @@ use Rattle.ck_run.specs.Tokens.{Table, table}
 use Rattle.ck_ring.specs.declared.answers.Take.{Take}
 use Rattle.ck_ring.specs.declared.answers.Take.TheVariants.{Item, Lost, Empty}
 use Rattle.ck_ring.specs.State.{Token, state}
-use Rattle.ck_pool.specs.declared.query.QueryRun.{QueryRun}
+use Rattle.ck_pool.specs.Limits.{most_job_lines, most_query_files, call_bound, start_call_bound}
+use Rattle.ck_pool.specs.declared.query_run.QueryRun.{QueryRun}
 use Rattle.ck_pool.specs.declared.worker.Worker.{Worker}
 use Rattle.ck_pool.specs.declared.worker.Worked.{Worked}
 use Rattle.ck_pool.specs.Meaning.{EyeMeaning}
-use Rattle.ck_pool.specs.Runs.{unmet, QueriesRan}
+use Rattle.ck_pool.specs.Runs.{short_loads, QueriesRan}
 use Rattle.ck_pool.specs.Served.{AreReady}
 use Rattle.ck_pool.specs.Desk.{occurrences, DeskView, ClerkView, IsClerkOf, fresh_clerk}
 
@@ -28,7 +29,7 @@ module _ {A B : Type 0} where
     pub line : Numbered (AskLine A)
     pub here : slice_get lines i ≡ Some line
     pub waits : line.what ≡ Wait n
-    pub whole : events ≡ before ++ unmet n counts
+    pub whole : events ≡ before ++ short_loads n counts
     pub ran : QueriesRan (take i lines) before answers
 
   -- a file was run to its end, or up to the `wait` of line i
@@ -37,7 +38,7 @@ module _ {A B : Type 0} where
   RanTo lines (Some i) events answers = IsHalted lines i events answers
 
 -- a `wait` stands at this line
-pub record IsWait {A : Type 0} (lines : List (Numbered (AskLine A))) (i : ℕ) : Type 0 where
+pub record IsWaitLine {A : Type 0} (lines : List (Numbered (AskLine A))) (i : ℕ) : Type 0 where
   pub n : ℕ
   pub line : Numbered (AskLine A)
   pub here : slice_get lines i ≡ Some line
@@ -45,12 +46,12 @@ pub record IsWait {A : Type 0} (lines : List (Numbered (AskLine A))) (i : ℕ) :
 
 -- the number of calls with an eye whose file was run to its end, or up to line i
 abbrev pub AreFew : ℕ → Option ℕ → Type 0
-AreFew calls None = calls < 2 ^ 39
-AreFew calls (Some i) = calls ≤ 2 ^ 38 + 8 * i
+AreFew calls None = calls < call_bound
+AreFew calls (Some i) = calls ≤ start_call_bound + 8 * i
 
 -- no file has more lines than a job may have
 abbrev pub AreShort : {A : Type 0} → List (Vec A Global) → Type 0
-AreShort {A} asks = (f : ℕ) (lines : Vec A Global) → slice_get asks f ≡ Some lines → length lines.items ≤ 4000000
+AreShort {A} asks = (f : ℕ) (lines : Vec A Global) → slice_get asks f ≡ Some lines → length lines.items ≤ most_job_lines
 
 -- how many of these runs are of file f
 abbrev pub runs_of : {E B : Type 0} → ℕ → List (QueryRun E B) → ℕ
@@ -66,7 +67,7 @@ module _ {E A B : Type 0} (eyes : EyeMeaning E A B) where
   pub record AreOnDesk (given : List E) (asks : List (Vec (Numbered (AskLine A)) Global)) : Type 0 where
     pub long : length asks ≡ length given
     pub some_file : 1 ≤ length asks
-    pub few : length asks ≤ 64
+    pub few : length asks ≤ most_query_files
     pub ready : AreReady eyes given
     pub short : AreShort asks
 
@@ -81,19 +82,19 @@ module _ {E A B : Type 0} (eyes : EyeMeaning E A B) where
 
   module _ (given_eyes : List E) (asks : List (Vec (Numbered (AskLine A)) Global)) where
     -- the file of a run was run with the eye that was given for it
-    pub record IsRun (r : QueryRun E B) : Type 0 where
+    pub record IsQueryRun (r : QueryRun E B) : Type 0 where
       pub given : E
       pub lines : Vec (Numbered (AskLine A)) Global
       pub eye : slice_get given_eyes r.file ≡ Some given
       pub file : slice_get asks r.file ≡ Some lines
       pub run : IsFileRun given lines.items r
 
-    abbrev pub AreRuns : List (QueryRun E B) → Type 0
-    AreRuns runs = (k : ℕ) (r : QueryRun E B) → slice_get runs k ≡ Some r → IsRun r
+    abbrev pub AreQueryRuns : List (QueryRun E B) → Type 0
+    AreQueryRuns runs = (k : ℕ) (r : QueryRun E B) → slice_get runs k ≡ Some r → IsQueryRun r
 
     -- of files that were run to their ends
     abbrev pub AreEnded : List (QueryRun E B) → Type 0
-    AreEnded runs = (k : ℕ) (r : QueryRun E B) → slice_get runs k ≡ Some r → IsRun r × (r.waits_at ≡ None)
+    AreEnded runs = (k : ℕ) (r : QueryRun E B) → slice_get runs k ≡ Some r → IsQueryRun r × (r.waits_at ≡ None)
 
     -- all files that its clerk has taken were run to their ends
     pub record IsWorked (d : DeskView E) (w : Worked E B) : Type 0 where

@@ -1,6 +1,6 @@
 //! The desk: one word and one slot for each query file. A worker that turns a file's word from 0 to 1 has that file's eye.
 ghost use Rattle.std.specs.Prelude.{◌≡◌, ◌+◌, ◌<◌, ◌∷◌, [], length, map, slice_get, IfOk, MatchOption, Some};
-ghost use Rattle.ck_pool.specs.Desk.{all_parts, occurrences, first_known, fewer, joined, IsClerkOf, fresh_clerk};
+ghost use Rattle.ck_pool.specs.Desk.{all_parts, occurrences, first_known, fewer, known_of_both, IsClerkOf, fresh_clerk};
 
 use crate::known::Known;
 use atomic_table::{Join, Play, Seat, Split, Table, TableRule};
@@ -25,9 +25,9 @@ impl<E> TableRule<Option<E>, Known<E>, Snapshot<Vec<E>>> for DeskRule<E> {
 struct Takes;
 
 impl<E> Play<Option<E>, Known<E>> for Takes {
-    ghost use Rattle.ck_pool.specs.Desk.{Took};
+    ghost use Rattle.ck_pool.specs.Desk.{TookEye};
 
-    ghost then = { λ s m n w. Took s.word m n w };
+    ghost then = { λ s m n w. TookEye s.word m n w };
 }
 
 /// A load by which the slot that was taken is given back, empty. A seat that holds a slot can't be joined.
@@ -54,9 +54,9 @@ impl<E> Split<Known<E>> for OnePart {
 struct BothParts;
 
 impl<E> Join<Known<E>> for BothParts {
-    ghost use Rattle.ck_pool.specs.Desk.{joined, spent};
+    ghost use Rattle.ck_pool.specs.Desk.{known_of_both, spent};
 
-    ghost both = { λ v w. joined v w };
+    ghost both = { λ v w. known_of_both v w };
 
     ghost spent = { spent };
 }
@@ -78,6 +78,7 @@ impl<E> Model for Clerk<E> {
     ghost invariant = { λ c. c.seat.me.1 ≡ [] };
 }
 
+/// The table of the words and slots, under the rule of the desk. Contracts see which table it is and the eyes that were put there.
 #[derive(Drop)]
 pub struct Desk<E> {
     table: Table<Option<E>, Known<E>, Snapshot<Vec<E>>, DeskRule<E>, Global>,
@@ -137,7 +138,7 @@ impl<E> Desk<E> {
     pub fn join(&self, clerk: &mut Clerk<E>, other: Clerk<E>)
         requires clerks { IsClerkOf self.now clerk.old × IsClerkOf self.now other }
         requires files { 0 < length self.now.eyes }
-        ensures { clerk.new ≡ record clerk.old { known = joined clerk.old.known other.known } }
+        ensures { clerk.new ≡ record clerk.old { known = known_of_both clerk.old.known other.known } }
     {
         let Clerk { seat } = other;
         self.table

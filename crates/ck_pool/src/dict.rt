@@ -1,5 +1,6 @@
 //! What the pool runs on.
 ghost use Rattle.std.specs.Prelude.{◌≡◌, ◌+◌, ◌<◌, ◌≤◌, ◌^◌, ◌++◌, ◌∷◌, [], IfOk, OnErr};
+ghost use Rattle.ck_pool.specs.Limits.{call_bound};
 
 use std::alloc::{AllocError, Global};
 use std::sync::Wait;
@@ -11,16 +12,22 @@ pub trait Dict: Sync {
     ghost use Rattle.ck_history.specs.declared.event.ReaderEvent.TheVariants.{Answered, Reached};
     ghost use Rattle.ck_pool.specs.Meaning.{HandMeaning, EyeMeaning};
 
+    /// What a line of the update file asks for.
     type Call: Drop + Send + Sync;
 
+    /// What an update answers.
     type Reply: Drop + Send;
 
+    /// What a line of a query file asks for.
     type Ask: Drop + Send + Sync;
 
+    /// What a query answers.
     type Answer: Drop + Send;
 
+    /// The end with which updates are made. There is one, and it needs no Drop: some structures take it back only where they are closed.
     type Hand: Send;
 
+    /// An end with which one reader's queries are asked.
     type Eye: Drop + Send;
 
     // What contracts see of the ends that were made with this dictionary.
@@ -40,7 +47,7 @@ pub trait Dict: Sync {
         call: &Self::Call,
     ) -> Result<Self::Reply, AllocError>
         requires ready { (hands self.now).ready hand.old }
-        requires calls { (hands self.now).calls hand.old < 2 ^ 39 }
+        requires calls { (hands self.now).calls hand.old < call_bound }
         ensures ready { (hands self.now).ready hand.new }
         ensures calls { (hands self.now).calls hand.new ≤ (hands self.now).calls hand.old + 8 }
         ensures ok { IfOk result (λ reply. (hands self.now).done hand.new ≡ (hands self.now).done hand.old ++ Updated call.now reply ∷ []) }
@@ -55,7 +62,7 @@ pub trait Dict: Sync {
         ask: &Self::Ask,
     ) -> Result<Self::Answer, AllocError>
         requires ready { (eyes self.now).ready eye.old }
-        requires calls { (eyes self.now).calls eye.old < 2 ^ 39 }
+        requires calls { (eyes self.now).calls eye.old < call_bound }
         ensures ready { (eyes self.now).ready eye.new }
         ensures calls { (eyes self.now).calls eye.new ≤ (eyes self.now).calls eye.old + 8 }
         ensures number { (eyes self.now).number eye.new ≡ (eyes self.now).number eye.old }
@@ -70,7 +77,7 @@ pub trait Dict: Sync {
         ensures number { (eyes self.now).number eye.new ≡ (eyes self.now).number eye.old }
         ensures done { (eyes self.now).done eye.new ≡ (eyes self.now).done eye.old ++ Reached n result ∷ [] };
 
-    /// Loads how many queries a reader has answered.
+    /// Loads how many queries the reader of this number has answered, as far as its eye has told. A dictionary that doesn't know may answer 0.
     fn answered(&self, hand: &mut Self::Hand, reader: u64) -> u64
         requires ready { (hands self.now).ready hand.old }
         requires reader { reader < readers self.now }
@@ -78,6 +85,7 @@ pub trait Dict: Sync {
         ensures calls { (hands self.now).calls hand.new ≡ (hands self.now).calls hand.old }
         ensures done { (hands self.now).done hand.new ≡ (hands self.now).done hand.old ++ Told reader result ∷ [] };
 
-    // The number of a ready eye is that of a reader.
+    // The number of a ready eye is that of one of its readers. So a job whose files have an eye each names in its `hold` lines only readers of which
+    // `answered` may be asked.
     ghost numbered: { (dict : Self) (eye : Self.Eye) → (eyes dict).ready eye → (eyes dict).number eye < readers dict };
 }

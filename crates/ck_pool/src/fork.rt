@@ -1,7 +1,8 @@
 //! Tasks in threads of their own.
 ghost use Rattle.std.specs.Prelude.{◌≡◌, ◌<◌, ◌≤◌, ◌^◌, ◌++◌, List, length, vec_len, IfOk, All};
-ghost use Rattle.ck_history.specs.declared.event.WriterEvent.{WriterEvent};
-ghost use Rattle.ck_pool.specs.Runs.{UpdatesRan, HoldReaders};
+ghost use Rattle.ck_pool.specs.Limits.{most_job_lines, call_bound, start_call_bound};
+ghost use Rattle.ck_pool.specs.Runs.{HoldReaders};
+ghost use Rattle.ck_pool.specs.Served.{IsUpdateFileServed};
 ghost use Rattle.ck_pool.specs.Working.{AreOnDesk, IsWorker, IsWorked};
 
 use crate::context::Context;
@@ -43,13 +44,11 @@ fn update_or_tell<D: Dict, G: Gate, R: Wait>(
     lines: &[Numbered<UpLine<D::Call>>],
 ) -> Result<Vec<D::Reply>, AllocError>
     requires ready { (D.hands context.now.dict.now).ready hand.old }
-    requires calls { ((D.hands context.now.dict.now).calls hand.old < 2 ^ 38) × (length lines.now ≤ 4000000) }
+    requires calls { ((D.hands context.now.dict.now).calls hand.old < start_call_bound) × (length lines.now ≤ most_job_lines) }
     requires readers { HoldReaders (D.readers context.now.dict.now) lines.now }
     ensures ready { (D.hands context.now.dict.now).ready hand.new }
-    ensures calls { (D.hands context.now.dict.now).calls hand.new < 2 ^ 39 }
-    ensures ran { IfOk result (λ replies. (events : List (WriterEvent D.Call D.Reply))
-        × ((D.hands context.now.dict.now).done hand.new ≡ (D.hands context.now.dict.now).done hand.old ++ events)
-        × UpdatesRan lines.now events replies.items) }
+    ensures calls { (D.hands context.now.dict.now).calls hand.new < call_bound }
+    ensures ran { IfOk result (λ replies. IsUpdateFileServed (D.hands context.now.dict.now) hand.old lines.now hand.new replies.items) }
 {
     let replies = run_updates(context, hand, lines);
     if replies.is_err() {
@@ -100,23 +99,19 @@ pub fn run_both<D: Dict, G: Gate + Sync, R: Threads + Wait + Sync>(
     Result<Vec<D::Reply>, AllocError>,
     Result<Vec<Result<Worked<D::Eye, D::Answer>, AllocError>>, AllocError>,
 )
-    requires hand { (D.hands context.now.dict.now).ready hand.old × ((D.hands context.now.dict.now).calls hand.old < 2 ^ 38) × (length ups.now ≤ 4000000) × HoldReaders (D.readers context.now.dict.now) ups.now }
+    requires hand { (D.hands context.now.dict.now).ready hand.old × ((D.hands context.now.dict.now).calls hand.old < start_call_bound) × (length ups.now ≤ most_job_lines) × HoldReaders (D.readers context.now.dict.now) ups.now }
     requires workers { All (IsWorker desk.now ring.now) workers.items }
     requires files { AreOnDesk (D.eyes context.now.dict.now) desk.now.eyes asks.now }
-    ensures hand { (D.hands context.now.dict.now).ready hand.new × ((D.hands context.now.dict.now).calls hand.new < 2 ^ 39) }
-    ensures updates { IfOk result.0 (λ replies. (events : List (WriterEvent D.Call D.Reply))
-        × ((D.hands context.now.dict.now).done hand.new ≡ (D.hands context.now.dict.now).done hand.old ++ events)
-        × UpdatesRan ups.now events replies.items) }
+    ensures hand { (D.hands context.now.dict.now).ready hand.new × ((D.hands context.now.dict.now).calls hand.new < call_bound) }
+    ensures updates { IfOk result.0 (λ replies. IsUpdateFileServed (D.hands context.now.dict.now) hand.old ups.now hand.new replies.items) }
     ensures len { IfOk result.1 (λ v. vec_len v ≡ vec_len workers) }
     ensures each { IfOk result.1 (λ v. All (λ one. IfOk one (IsWorked (D.eyes context.now.dict.now) desk.now.eyes asks.now desk.now)) v.items) }
 {
     let mut updates = || -> Result<Vec<D::Reply>, AllocError>
-        requires { (D.hands context.now.dict.now).ready hand.now × ((D.hands context.now.dict.now).calls hand.now < 2 ^ 38) × (length ups.now ≤ 4000000) × HoldReaders (D.readers context.now.dict.now) ups.now }
+        requires { (D.hands context.now.dict.now).ready hand.now × ((D.hands context.now.dict.now).calls hand.now < start_call_bound) × (length ups.now ≤ most_job_lines) × HoldReaders (D.readers context.now.dict.now) ups.now }
         ensures ready { (D.hands context.entry.now.dict.now).ready hand.exit.now }
-        ensures calls { (D.hands context.entry.now.dict.now).calls hand.exit.now < 2 ^ 39 }
-        ensures ran { IfOk result (λ replies. (events : List (WriterEvent D.Call D.Reply))
-            × ((D.hands context.entry.now.dict.now).done hand.exit.now ≡ (D.hands context.entry.now.dict.now).done hand.entry.now ++ events)
-            × UpdatesRan ups.entry.now events replies.items) }
+        ensures calls { (D.hands context.entry.now.dict.now).calls hand.exit.now < call_bound }
+        ensures ran { IfOk result (λ replies. IsUpdateFileServed (D.hands context.entry.now.dict.now) hand.entry.now ups.entry.now hand.exit.now replies.items) }
     { update_or_tell(context, hand, ups) };
     let mut queries = move || -> Result<
         Vec<Result<Worked<D::Eye, D::Answer>, AllocError>>,

@@ -1,13 +1,13 @@
 //! How the files come back from the workers.
 ghost use Rattle.std.specs.Prelude.{◌≡◌, ◌≢◌, ◌+◌, ◌<◌, ◌≤◌, ℕ, [], ◌∷◌, length, vec_len, slice_get, take, IfOk, OnOk, MatchOption, All, Some, None};
-ghost use Rattle.ck_pool.specs.declared.query.QueryRun.{QueryRun};
+ghost use Rattle.ck_pool.specs.declared.query_run.QueryRun.{QueryRun};
 ghost use Rattle.ck_pool.specs.Desk.{occurrences, all_parts, IsClerkOf};
-ghost use Rattle.ck_pool.specs.Working.{IsRun, AreEnded, IsWorked, AreOnDesk, HasRuns, runs_of};
+ghost use Rattle.ck_pool.specs.Working.{IsQueryRun, AreEnded, IsWorked, AreOnDesk, HasRuns, runs_of};
 
 use crate::context::Context;
 use crate::desk::{Clerk, Desk};
 use crate::dict::Dict;
-use crate::query::{QueryRun, finish, start};
+use crate::query_run::{QueryRun, finish, start};
 use crate::worker::Worked;
 use ck_io::Gate;
 use ck_script::{AskLine, Numbered};
@@ -76,7 +76,7 @@ pub fn ended_run<D: Dict, G: Gate, R: Wait>(
     ensures clerk { IsClerkOf desk.now clerk.new × (clerk.new.known.parts ≡ all_parts) }
     ensures took { IfOk result (λ _. (f : ℕ) → f ≢ file → occurrences f clerk.new.known.took ≡ occurrences f clerk.old.known.took) }
     ensures file { IfOk result (λ r. r.file ≡ file) }
-    ensures run { IfOk result (λ r. IsRun (D.eyes context.now.dict.now) desk.now.eyes asks.now r × (r.waits_at ≡ None)) }
+    ensures run { IfOk result (λ r. IsQueryRun (D.eyes context.now.dict.now) desk.now.eyes asks.now r × (r.waits_at ≡ None)) }
     ensures each { IfOk result (λ _. AreEnded (D.eyes context.now.dict.now) desk.now.eyes asks.now runs.new.items) }
     ensures rest { IfOk result (λ _. (f : ℕ) → f ≢ file → runs_of f runs.new.items ≡ runs_of f runs.old.items) }
 {

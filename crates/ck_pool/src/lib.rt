@@ -1,7 +1,6 @@
 //! Tasks that run a job over a dictionary.
 #![tactic(auto)]
 
-mod answered;
 mod context;
 mod desk;
 mod dict;
@@ -9,10 +8,11 @@ mod fork;
 mod gather;
 mod job;
 mod known;
+mod map_results;
 mod on_snap;
 mod over_snap;
-mod queries;
-mod query;
+mod query_lines;
+mod query_run;
 mod serving;
 mod shortage;
 #[cfg(test)]
@@ -20,8 +20,8 @@ mod tests;
 mod updates;
 mod worker;
 
-pub use answered::Answered;
 pub use dict::Dict;
 pub use job::{Job, Served};
+pub use map_results::MapResults;
 pub use over_snap::run_over_snap;
 pub use serving::serve;

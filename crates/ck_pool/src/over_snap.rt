@@ -3,11 +3,12 @@ ghost use Rattle.std.specs.Prelude.{◌≡◌, ◌<◌, ◌≤◌, ◌^◌, [], 
 ghost use Rattle.ck_script.specs.Script.{said_of, holds};
 ghost use Rattle.ck_script.specs.Checks.{range_fault};
 ghost use Rattle.ck_snap.specs.Tokens.{IsWriterOf, IsPassOf, AreFreshSnapPasses, fresh_writer, log};
+ghost use Rattle.ck_pool.specs.Limits.{most_job_lines, most_query_files, most_workers, call_bound};
 ghost use Rattle.ck_pool.specs.Served.{line_total};
-ghost use Rattle.ck_pool.specs.Snapshots.{AreTied, job_script, IsAnswered};
+ghost use Rattle.ck_pool.specs.Snapshots.{AllPlacedIn, job_script, AreMapResults};
 
-use crate::answered::Answered;
 use crate::job::{Job, Served};
+use crate::map_results::MapResults;
 use crate::serving::serve;
 use ck_io::Gate;
 use ck_snap::{Snap, SnapPass, SnapWriter};
@@ -22,11 +23,11 @@ fn tie_all<R: Wait>(
     hand: &mut SnapWriter,
     passes: Vec<SnapPass>,
 ) -> Result<(), AllocError>
-    requires hand { IsWriterOf snap.now hand.old × (hand.old.calls < 2 ^ 39) }
-    requires passes { All (λ p. IsPassOf snap.now p × (p.calls < 2 ^ 40)) passes.items }
-    requires count { vec_len passes ≤ 64 }
+    requires hand { IsWriterOf snap.now hand.old × (hand.old.calls < call_bound) }
+    requires passes { All (λ p. IsPassOf snap.now p × (p.calls < call_bound)) passes.items }
+    requires count { vec_len passes ≤ most_query_files }
     ensures hand { IsWriterOf snap.now hand.new × (hand.new.done ≡ hand.old.done) }
-    ensures tied { OnOk result (AreTied (log hand.old) passes.items) }
+    ensures tied { OnOk result (AllPlacedIn (log hand.old) passes.items) }
 {
     let mut left = passes;
     while let Some(pass) = left.pop() {
@@ -46,16 +47,16 @@ fn serve_and_tie<G: Gate + Sync, R: Threads + Wait + Sync>(
     job: &Job<Snap>,
     workers: u64,
     gate: &G,
-) -> Result<Answered, AllocError>
+) -> Result<MapResults, AllocError>
     requires hand { hand.old ≡ fresh_writer snap.now }
     requires passes { AreFreshSnapPasses snap.now 0 passes.items × (vec_len passes ≡ length job.now.asks.items) × (snap.now.readers ≡ length job.now.asks.items) }
-    requires files { (1 ≤ length job.now.asks.items) × (length job.now.asks.items ≤ 64) }
-    requires workers { (1 ≤ workers) × (workers ≤ 16) }
-    requires lines { line_total job.now.ups.items job.now.asks.items ≤ 4000000 }
+    requires files { (1 ≤ length job.now.asks.items) × (length job.now.asks.items ≤ most_query_files) }
+    requires workers { (1 ≤ workers) × (workers ≤ most_workers) }
+    requires lines { line_total job.now.ups.items job.now.asks.items ≤ most_job_lines }
     requires ranges { range_fault job.now.ups.items (map (λ file. file.items) job.now.asks.items) ≡ None }
     requires no_hold { holds 0 (said_of job.now.ups.items) ≡ [] }
     ensures hand { IsWriterOf snap.now hand.new }
-    ensures answered { IfOk result (IsAnswered (job_script job.now.ups.items job.now.asks.items)) }
+    ensures answered { IfOk result (AreMapResults (job_script job.now.ups.items job.now.asks.items)) }
 {
     let served = serve(rt, alloc, snap, hand, passes, job, workers, gate)?;
     let Served {
@@ -65,7 +66,7 @@ fn serve_and_tie<G: Gate + Sync, R: Threads + Wait + Sync>(
     } = served;
     tie_all(rt, snap, hand, eyes)?;
     let pairs = snap.entries(alloc, hand)?;
-    Ok(Answered {
+    Ok(MapResults {
         replies,
         answers,
         pairs,
@@ -83,13 +84,13 @@ pub fn run_over_snap<G: Gate + Sync, R: Threads + Wait + Sync>(
     job: &Job<Snap>,
     workers: u64,
     gate: &G,
-) -> Result<Answered, AllocError>
-    requires files { (1 ≤ length job.now.asks.items) × (length job.now.asks.items ≤ 64) }
-    requires workers { (1 ≤ workers) × (workers ≤ 16) }
-    requires lines { line_total job.now.ups.items job.now.asks.items ≤ 4000000 }
+) -> Result<MapResults, AllocError>
+    requires files { (1 ≤ length job.now.asks.items) × (length job.now.asks.items ≤ most_query_files) }
+    requires workers { (1 ≤ workers) × (workers ≤ most_workers) }
+    requires lines { line_total job.now.ups.items job.now.asks.items ≤ most_job_lines }
     requires ranges { range_fault job.now.ups.items (map (λ file. file.items) job.now.asks.items) ≡ None }
     requires no_hold { holds 0 (said_of job.now.ups.items) ≡ [] }
-    ensures { IfOk result (IsAnswered (job_script job.now.ups.items job.now.asks.items)) }
+    ensures { IfOk result (AreMapResults (job_script job.now.ups.items job.now.asks.items)) }
 {
     let (snap, mut hand, passes) = Snap::new(rt, alloc, job.asks.len() as u64)?;
     let answered = serve_and_tie(rt, alloc, &snap, &mut hand, passes, job, workers, gate);

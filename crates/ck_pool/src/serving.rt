@@ -2,10 +2,10 @@
 ghost use Rattle.std.specs.Prelude.{◌≡◌, ◌+◌, ◌<◌, ◌≤◌, ◌^◌, ◌++◌, ℕ, List, [], ◌∷◌, length, vec_len, map, IfOk, All, None};
 ghost use Rattle.ck_run.specs.Tokens.{table};
 ghost use Rattle.ck_ring.specs.State.{state, size_of};
-ghost use Rattle.ck_history.specs.declared.event.WriterEvent.{WriterEvent};
 ghost use Rattle.ck_script.specs.Checks.{range_fault};
-ghost use Rattle.ck_pool.specs.Runs.{UpdatesRan, HoldReaders};
-ghost use Rattle.ck_pool.specs.Served.{AreReady, AreNumbered, AreServed, line_total};
+ghost use Rattle.ck_pool.specs.Limits.{most_job_lines, most_query_files, most_workers, call_bound, start_call_bound};
+ghost use Rattle.ck_pool.specs.Runs.{HoldReaders};
+ghost use Rattle.ck_pool.specs.Served.{AreReady, AreInOrder, IsUpdateFileServed, AreServed, line_total};
 ghost use Rattle.ck_pool.specs.Desk.{all_parts, IsClerkOf};
 ghost use Rattle.ck_pool.specs.Working.{AreOnDesk, AreEnded, HasRuns, IsWorker, numbers_below};
 
@@ -15,7 +15,7 @@ use crate::dict::Dict;
 use crate::fork::run_both;
 use crate::gather::{ended_run, gather};
 use crate::job::{Job, Served};
-use crate::query::QueryRun;
+use crate::query_run::QueryRun;
 use crate::shortage::Shortage;
 use crate::worker::Worker;
 use ck_io::Gate;
@@ -62,7 +62,7 @@ fn team_of<E: Drop>(
 fn send_all(ring: &Ring, producer: &mut Producer, files: u64)
     requires table { table producer.old ≡ ring.now }
     requires new { ((state producer.old).calls ≡ 0) × ((state producer.old).sent ≡ []) }
-    requires room { (files ≤ 64) × (64 < size_of ring.now.origin) }
+    requires room { (files ≤ most_query_files) × (most_query_files < size_of ring.now.origin) }
     ensures { (state producer.new).sent ≡ numbers_below files }
 {
     for file in 0..files {
@@ -111,15 +111,13 @@ fn run_tasks<D: Dict, G: Gate + Sync, R: Threads + Wait + Sync>(
     ring: &Ring,
     consumers: Vec<Consumer>,
 ) -> Result<Served<D>, AllocError>
-    requires hand { (D.hands context.now.dict.now).ready hand.old × ((D.hands context.now.dict.now).calls hand.old < 2 ^ 38) }
+    requires hand { (D.hands context.now.dict.now).ready hand.old × ((D.hands context.now.dict.now).calls hand.old < start_call_bound) }
     requires files { AreOnDesk (D.eyes context.now.dict.now) eyes.items job.now.asks.items }
-    requires lines { length job.now.ups.items ≤ 4000000 }
+    requires lines { length job.now.ups.items ≤ most_job_lines }
     requires readers { HoldReaders (D.readers context.now.dict.now) job.now.ups.items }
-    requires consumers { (vec_len consumers ≤ 16) × All (λ c. (table c ≡ ring.now) × ((state c).calls ≡ 0)) consumers.items }
-    ensures hand { (D.hands context.now.dict.now).ready hand.new × ((D.hands context.now.dict.now).calls hand.new < 2 ^ 39) }
-    ensures updates { IfOk result (λ served. (events : List (WriterEvent D.Call D.Reply))
-        × ((D.hands context.now.dict.now).done hand.new ≡ (D.hands context.now.dict.now).done hand.old ++ events)
-        × UpdatesRan job.now.ups.items events served.replies.items) }
+    requires consumers { (vec_len consumers ≤ most_workers) × All (λ c. (table c ≡ ring.now) × ((state c).calls ≡ 0)) consumers.items }
+    ensures hand { (D.hands context.now.dict.now).ready hand.new × ((D.hands context.now.dict.now).calls hand.new < call_bound) }
+    ensures updates { IfOk result (λ served. IsUpdateFileServed (D.hands context.now.dict.now) hand.old job.now.ups.items hand.new served.replies.items) }
     ensures queries { IfOk result (λ served. AreServed (D.eyes context.now.dict.now) eyes.items (map (λ file. file.items) job.now.asks.items) served.eyes.items (map (λ file. file.items) served.answers.items)) }
 {
     let (desk, mut clerk) = Desk::new(context.alloc, eyes)?;
@@ -154,18 +152,16 @@ pub fn serve<D: Dict, G: Gate + Sync, R: Threads + Wait + Sync>(
     workers: u64,
     gate: &G,
 ) -> Result<Served<D>, AllocError>
-    requires hand { (D.hands dict.now).ready hand.old × ((D.hands dict.now).calls hand.old < 2 ^ 38) }
-    requires eyes { AreReady (D.eyes dict.now) eyes.items × AreNumbered (D.eyes dict.now) 0 eyes.items }
-    requires files { (1 ≤ length job.now.asks.items) × (length job.now.asks.items ≤ 64) × (length job.now.asks.items ≡ length eyes.items) }
-    requires workers { (1 ≤ workers) × (workers ≤ 16) }
-    requires lines { line_total job.now.ups.items job.now.asks.items ≤ 4000000 }
+    requires hand { (D.hands dict.now).ready hand.old × ((D.hands dict.now).calls hand.old < start_call_bound) }
+    requires eyes { AreReady (D.eyes dict.now) eyes.items × AreInOrder (D.eyes dict.now) 0 eyes.items }
+    requires files { (1 ≤ length job.now.asks.items) × (length job.now.asks.items ≤ most_query_files) × (length job.now.asks.items ≡ length eyes.items) }
+    requires workers { (1 ≤ workers) × (workers ≤ most_workers) }
+    requires lines { line_total job.now.ups.items job.now.asks.items ≤ most_job_lines }
     requires ranges { range_fault job.now.ups.items (map (λ file. file.items) job.now.asks.items) ≡ None }
-    ensures hand { (D.hands dict.now).ready hand.new × ((D.hands dict.now).calls hand.new < 2 ^ 39) }
-    ensures updates { IfOk result (λ served. (events : List (WriterEvent D.Call D.Reply))
-        × ((D.hands dict.now).done hand.new ≡ (D.hands dict.now).done hand.old ++ events)
-        × UpdatesRan job.now.ups.items events served.replies.items) }
+    ensures hand { (D.hands dict.now).ready hand.new × ((D.hands dict.now).calls hand.new < call_bound) }
+    ensures updates { IfOk result (λ served. IsUpdateFileServed (D.hands dict.now) hand.old job.now.ups.items hand.new served.replies.items) }
     ensures queries { IfOk result (λ served. AreServed (D.eyes dict.now) eyes.items (map (λ file. file.items) job.now.asks.items) served.eyes.items (map (λ file. file.items) served.answers.items)) }
-    ensures numbered { IfOk result (λ served. AreNumbered (D.eyes dict.now) 0 served.eyes.items) }
+    ensures numbered { IfOk result (λ served. AreInOrder (D.eyes dict.now) 0 served.eyes.items) }
 {
     let (ring, mut producer, consumers) = Ring::new(alloc, RING_LOG, workers)?;
     send_all(&ring, &mut producer, job.asks.len() as u64);

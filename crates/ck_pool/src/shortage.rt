@@ -8,16 +8,19 @@ pub struct Shortage {
 }
 
 impl Shortage {
+    /// A flag that isn't raised.
     pub fn new() -> Shortage {
         Shortage {
             raised: AtomicBool::new(false),
         }
     }
 
+    /// Tells the other tasks that this one has found no memory. It is never lowered.
     pub fn raise(&self) {
         self.raised.store(true, Ordering::SeqCst);
     }
 
+    /// Whether a task has found no memory. A task that waits for others asks this between its loads, since they may have ended.
     pub fn is_raised(&self) -> bool {
         self.raised.load(Ordering::SeqCst)
     }

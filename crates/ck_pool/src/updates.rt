@@ -1,7 +1,9 @@
 //! The update file.
 ghost use Rattle.std.specs.Prelude.{◌≡◌, ◌+◌, ◌-◌, ◌<◌, ◌≤◌, ◌*◌, ◌^◌, ◌++◌, ◌∷◌, [], ℕ, List, length, All, IfOk, OnOk};
 ghost use Rattle.ck_history.specs.declared.event.WriterEvent.{WriterEvent};
-ghost use Rattle.ck_pool.specs.Runs.{told, UpdateLineRan, UpdatesRan, HoldsReader, HoldReaders};
+ghost use Rattle.ck_pool.specs.Limits.{most_job_lines, call_bound, start_call_bound};
+ghost use Rattle.ck_pool.specs.Runs.{answer_loads, UpdateLineRan, UpdatesRan, HoldsReader, HoldReaders};
+ghost use Rattle.ck_pool.specs.Served.{IsUpdateFileServed};
 
 use crate::context::Context;
 use crate::dict::Dict;
@@ -23,7 +25,7 @@ fn hold_for<D: Dict, G: Gate, R: Wait>(
     ensures ready { (D.hands context.now.dict.now).ready hand.new }
     ensures calls { (D.hands context.now.dict.now).calls hand.new ≡ (D.hands context.now.dict.now).calls hand.old }
     ensures done { OnOk result ((counts : List ℕ) × (k : ℕ)
-        × ((D.hands context.now.dict.now).done hand.new ≡ (D.hands context.now.dict.now).done hand.old ++ (told reader counts ++ told reader (k ∷ [])))
+        × ((D.hands context.now.dict.now).done hand.new ≡ (D.hands context.now.dict.now).done hand.old ++ (answer_loads reader counts ++ answer_loads reader (k ∷ [])))
         × All (λ m. m < n) counts × (n ≤ k)) }
 {
     let backoff = Backoff::new();
@@ -47,7 +49,7 @@ fn run_line<D: Dict, G: Gate, R: Wait>(
     replies: &mut Vec<D::Reply>,
 ) -> Result<(), AllocError>
     requires ready { (D.hands context.now.dict.now).ready hand.old }
-    requires calls { (D.hands context.now.dict.now).calls hand.old < 2 ^ 39 }
+    requires calls { (D.hands context.now.dict.now).calls hand.old < call_bound }
     requires reader { HoldsReader (D.readers context.now.dict.now) line.now }
     ensures ready { (D.hands context.now.dict.now).ready hand.new }
     ensures calls { (D.hands context.now.dict.now).calls hand.new ≤ (D.hands context.now.dict.now).calls hand.old + 8 }
@@ -72,13 +74,11 @@ pub fn run_updates<D: Dict, G: Gate, R: Wait>(
     lines: &[Numbered<UpLine<D::Call>>],
 ) -> Result<Vec<D::Reply>, AllocError>
     requires ready { (D.hands context.now.dict.now).ready hand.old }
-    requires calls { ((D.hands context.now.dict.now).calls hand.old < 2 ^ 38) × (length lines.now ≤ 4000000) }
+    requires calls { ((D.hands context.now.dict.now).calls hand.old < start_call_bound) × (length lines.now ≤ most_job_lines) }
     requires readers { HoldReaders (D.readers context.now.dict.now) lines.now }
     ensures ready { (D.hands context.now.dict.now).ready hand.new }
-    ensures calls { (D.hands context.now.dict.now).calls hand.new < 2 ^ 39 }
-    ensures ran { IfOk result (λ replies. (events : List (WriterEvent D.Call D.Reply))
-        × ((D.hands context.now.dict.now).done hand.new ≡ (D.hands context.now.dict.now).done hand.old ++ events)
-        × UpdatesRan lines.now events replies.items) }
+    ensures calls { (D.hands context.now.dict.now).calls hand.new < call_bound }
+    ensures ran { IfOk result (λ replies. IsUpdateFileServed (D.hands context.now.dict.now) hand.old lines.now hand.new replies.items) }
 {
     let mut replies = Vec::new(context.alloc);
     for i in 0..lines.len() {

@@ -1,14 +1,14 @@
 //! What a worker does: it takes files by the numbers that come through the ring, and runs each to its end.
 ghost use Rattle.std.specs.Prelude.{◌≡◌, ◌+◌, ◌<◌, ◌≤◌, ◌^◌, ℕ, length, vec_len, slice_get, [], true, IfOk, OnOk, None, Some};
 ghost use Rattle.ck_run.specs.Tokens.{table};
-ghost use Rattle.ck_pool.specs.declared.query.QueryRun.{QueryRun};
+ghost use Rattle.ck_pool.specs.declared.query_run.QueryRun.{QueryRun};
 ghost use Rattle.ck_pool.specs.Desk.{IsClerkOf};
-ghost use Rattle.ck_pool.specs.Working.{AreOnDesk, AreRuns, AreEnded, HasRuns, runs_of, IsWorked, IsWorker, MayDequeue, MayDequeueAgain};
+ghost use Rattle.ck_pool.specs.Working.{AreOnDesk, AreQueryRuns, AreEnded, HasRuns, runs_of, IsWorked, IsWorker, MayDequeue, MayDequeueAgain};
 
 use crate::context::Context;
 use crate::desk::{Clerk, Desk};
 use crate::dict::Dict;
-use crate::query::{QueryRun, load_again, start};
+use crate::query_run::{QueryRun, load_again, start};
 use ck_io::Gate;
 use ck_ring::{Consumer, Ring, Take};
 use ck_script::{AskLine, Numbered};
@@ -53,12 +53,12 @@ fn take_one<D: Dict, G: Gate, R: Wait>(
     requires clerk { IsClerkOf desk.now clerk.old }
     requires ring { (table consumer.old ≡ ring.now) × MayDequeue consumer.old }
     requires files { AreOnDesk (D.eyes context.now.dict.now) desk.now.eyes asks.now }
-    requires each { AreRuns (D.eyes context.now.dict.now) desk.now.eyes asks.now runs.old.items }
+    requires each { AreQueryRuns (D.eyes context.now.dict.now) desk.now.eyes asks.now runs.old.items }
     requires all { HasRuns clerk.old runs.old.items }
     ensures clerk { IsClerkOf desk.now clerk.new × (clerk.new.known.parts ≡ clerk.old.known.parts) }
     ensures table { table consumer.new ≡ ring.now }
     ensures may { IfOk result (λ more. more ≡ true → MayDequeue consumer.new) }
-    ensures each { OnOk result (AreRuns (D.eyes context.now.dict.now) desk.now.eyes asks.now runs.new.items) }
+    ensures each { OnOk result (AreQueryRuns (D.eyes context.now.dict.now) desk.now.eyes asks.now runs.new.items) }
     ensures all { OnOk result (HasRuns clerk.new runs.new.items) }
 {
     match dequeue(ring, consumer) {
@@ -90,7 +90,7 @@ fn take_all<D: Dict, G: Gate, R: Wait>(
     requires files { AreOnDesk (D.eyes context.now.dict.now) desk.now.eyes asks.now }
     requires none { runs.old.items ≡ [] }
     ensures clerk { IsClerkOf desk.now clerk.new × (clerk.new.known.parts ≡ clerk.old.known.parts) }
-    ensures each { OnOk result (AreRuns (D.eyes context.now.dict.now) desk.now.eyes asks.now runs.new.items) }
+    ensures each { OnOk result (AreQueryRuns (D.eyes context.now.dict.now) desk.now.eyes asks.now runs.new.items) }
     ensures all { OnOk result (HasRuns clerk.new runs.new.items) }
 {
     for _ in context.rt.forever() {
@@ -122,9 +122,9 @@ fn load_all<D: Dict, G: Gate, R: Wait>(
     others: &mut Vec<QueryRun<D::Eye, D::Answer>>,
 ) -> Result<(), AllocError>
     requires files { AreOnDesk (D.eyes context.now.dict.now) desk.now.eyes asks.now }
-    requires each { AreRuns (D.eyes context.now.dict.now) desk.now.eyes asks.now runs.old.items }
+    requires each { AreQueryRuns (D.eyes context.now.dict.now) desk.now.eyes asks.now runs.old.items }
     requires none { others.old.items ≡ [] }
-    ensures each { OnOk result (AreRuns (D.eyes context.now.dict.now) desk.now.eyes asks.now others.new.items) }
+    ensures each { OnOk result (AreQueryRuns (D.eyes context.now.dict.now) desk.now.eyes asks.now others.new.items) }
     ensures all { OnOk result ((f : ℕ) → runs_of f others.new.items ≡ runs_of f runs.old.items) }
     ensures none { OnOk result (runs.new.items ≡ []) }
 {
@@ -143,7 +143,7 @@ fn finish_all<D: Dict, G: Gate, R: Wait>(
     runs: Vec<QueryRun<D::Eye, D::Answer>>,
 ) -> Result<Vec<QueryRun<D::Eye, D::Answer>>, AllocError>
     requires files { AreOnDesk (D.eyes context.now.dict.now) desk.now.eyes asks.now }
-    requires each { AreRuns (D.eyes context.now.dict.now) desk.now.eyes asks.now runs.items }
+    requires each { AreQueryRuns (D.eyes context.now.dict.now) desk.now.eyes asks.now runs.items }
     ensures each { IfOk result (λ v. AreEnded (D.eyes context.now.dict.now) desk.now.eyes asks.now v.items) }
     ensures all { IfOk result (λ v. (f : ℕ) → runs_of f v.items ≡ runs_of f runs.items) }
 {

@@ -1,6 +1,6 @@
 use Rattle.std.proofs.Common.{◌≡◌, ◌+◌, IfOk, None, ap, vec_len, arith}
 use Rattle.ck_pool.specs.Desk.{ClerkView}
-use Rattle.ck_pool.specs.Working.{IsRun, IsWorked}
+use Rattle.ck_pool.specs.Working.{IsQueryRun, IsWorked}
 use Rattle.ck_pool.proofs.Files.{all_front, all_last, ok_of, each_joined, gathered_all, joined_clerk}
 use Rattle.ck_pool.proofs.gather.gather.Goals as goal
 
@@ -22,7 +22,7 @@ loop-one-preserved g c =
       clerk = joined_clerk c.args.desk.now old new clerk c.join.ensures inv.clerk;
       parts = omega arith;
       left = all_front (λ one. IfOk one (IsWorked (g.D.Dict.eyes c.args.context.now.dict.now) c.args.desk.now.eyes c.args.asks.now c.args.desk.now)) c.loop-one.left.items c.pop.new.self.items c.in-Some.one whole inv.left;
-      each = each_joined (λ r. IsRun (g.D.Dict.eyes c.args.context.now.dict.now) c.args.desk.now.eyes c.args.asks.now r × (r.waits_at ≡ None)) c.loop-one.runs.items more.items c.append.new.self.items c.in_ok-append.ensures.items inv.each
+      each = each_joined (λ r. IsQueryRun (g.D.Dict.eyes c.args.context.now.dict.now) c.args.desk.now.eyes c.args.asks.now r × (r.waits_at ≡ None)) c.loop-one.runs.items more.items c.append.new.self.items c.in_ok-append.ensures.items inv.each
           said.ended;
       all = gathered_all old.known.took new.known.took clerk.known.took c.loop-one.runs.items c.append.new.self.items more.items (ap (λ (k : ClerkView g.row.D-Eye.Denot). k.known.took) c.join.ensures) c.in_ok-append.ensures.items inv.all
           said.all;

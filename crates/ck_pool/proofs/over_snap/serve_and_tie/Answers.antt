@@ -1,8 +1,9 @@
 use Rattle.std.proofs.Common.{◌≡◌, ◌∙◌, ◌<◌, ◌^◌, ◌++◌, length, map, sym, ap, subst, arith}
 use Rattle.ck_snap.specs.Places.{Writing, log_of_events}
 use Rattle.ck_snap.specs.Tokens.{WriterView, IsPassOf}
+use Rattle.ck_pool.specs.Limits.{call_bound}
 use Rattle.ck_pool.specs.Runs.{UpdatesRan}
-use Rattle.ck_pool.specs.Snapshots.{snap_eye, AreTied}
+use Rattle.ck_pool.specs.Snapshots.{snap_eye, AllPlacedIn}
 use Rattle.ck_pool.proofs.Files.{each_all, served_each, served_long}
 use Rattle.ck_pool.proofs.Snapping.{fresh_ready, fresh_numbered, fresh_unused, snap_replies, snap_pairs, snap_legal}
 use Rattle.ck_pool.proofs.over_snap.serve_and_tie.Goals as goal
@@ -15,7 +16,7 @@ serve-requires-clause-eyes g c κs within = (
 
 pub tie_all-requires-clause-passes : goal.tie_all-requires-clause-passes
 tie_all-requires-clause-passes g c =
-    each_all (λ p. IsPassOf c.args.snap.now p × (p.calls < 2 ^ 40)) c.in_ok-served.served.eyes.items
+    each_all (λ p. IsPassOf c.args.snap.now p × (p.calls < call_bound)) c.in_ok-served.served.eyes.items
     (λ k e is. let h = served_each (snap_eye c.args.snap.now) c.args.passes.items (map (λ file. file.items) c.args.job.now.asks.items) c.in_ok-served.served.eyes.items (map (λ file. file.items) c.in_ok-served.served.answers.items) c.in_ok-served.ensures.queries k e is in
     (h.0, let few = h.1 in omega arith))
 
@@ -34,7 +35,7 @@ returns-clause-answered g c =
     let same : done ≡ c.serve.new.hand.done = c.in_ok-tie_all.ensures.hand.1 in
     let all : done ≡ u.0 = same ∙ (u.1 ∙ ap (λ (w : WriterView). w.done ++ u.0) c.requires.hand) in
     let ran : UpdatesRan ups done rs = subst (λ (es : Writing). UpdatesRan ups es rs) (sym all) u.2 in
-    let tied : AreTied (log_of_events done) eyes = subst (λ (es : Writing). AreTied (log_of_events es) eyes) (sym same) c.in_ok-tie_all.ensures.tied in
+    let tied : AllPlacedIn (log_of_events done) eyes = subst (λ (es : Writing). AllPlacedIn (log_of_events es) eyes) (sym same) c.in_ok-tie_all.ensures.tied in
     record {
       replied = snap_replies c.args.snap.now ups done rs ran c.in_ok-pairs.ensures.current.replies;
       legal = snap_legal c.args.snap.now ups done rs ran c.args.passes.items (map (λ file. file.items) c.args.job.now.asks.items) eyes (map (λ file. file.items) c.in_ok-served.served.answers.items) c.requires.no_hold

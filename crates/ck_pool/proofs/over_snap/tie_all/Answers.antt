@@ -1,6 +1,7 @@
 use Rattle.std.proofs.Common.{◌≡◌, ◌∙◌, ◌+◌, ◌<◌, ◌^◌, ap, subst, vec_len, arith}
 use Rattle.ck_snap.specs.Tokens.{WriterView, IsPassOf, log}
 use Rattle.ck_snap.specs.Places.{Writing, log_of_events, ArePlacedIn}
+use Rattle.ck_pool.specs.Limits.{call_bound}
 use Rattle.ck_pool.proofs.Files.{all_front}
 use Rattle.ck_pool.proofs.Snapping.{tied_snoc}
 use Rattle.ck_pool.proofs.over_snap.tie_all.Goals as goal
@@ -18,6 +19,6 @@ loop-pass-preserved g c =
       hand = ap (λ (w : WriterView). w.origin) t.writer ∙ inv.hand;
       done = ap (λ (w : WriterView). w.done) t.writer ∙ inv.done;
       calls = omega arith;
-      left = all_front (λ p. IsPassOf c.args.snap.now p × (p.calls < 2 ^ 40)) c.loop-pass.left.items c.pop.new.self.items p whole inv.left;
+      left = all_front (λ p. IsPassOf c.args.snap.now p × (p.calls < call_bound)) c.loop-pass.left.items c.pop.new.self.items p whole inv.left;
       tied = λ all. inv.tied (tied_snoc (log c.args.hand.now) c.pop.new.self.items c.loop-pass.left.items p whole (subst (λ (es : Writing). ArePlacedIn (log_of_events es) p.done p.places) inv.done t.placed) all);
     }

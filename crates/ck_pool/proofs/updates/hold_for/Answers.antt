@@ -2,7 +2,7 @@ use Rattle.std.proofs.Common.{◌∙◌, ap, sym, refl, [], ◌∷◌, ◌++◌,
 use Rattle.std.proofs.lemmas.Grind.{common_steps}
 use Rattle.std.proofs.lemmas.List.{append-nil}
 use Rattle.ck_history.specs.declared.event.WriterEvent.TheVariants.{Told}
-use Rattle.ck_pool.proofs.Running.{one_more_told}
+use Rattle.ck_pool.proofs.Running.{one_more_answer_load}
 use Rattle.ck_pool.proofs.updates.hold_for.Goals as goal
 
 pub loop-init : goal.loop-init
@@ -22,5 +22,5 @@ loop-preserved g c =
     record {
       ready = c.answered.ensures.ready;
       calls = c.answered.ensures.calls ∙ c.loop.invariant.calls;
-      done = (ms ++ m ∷ [], c.answered.ensures.done ∙ (ap (λ l. l ++ Told c.args.reader m ∷ []) c.loop.invariant.done.1 ∙ one_more_told ((g.D.Dict.hands c.args.context.now.dict.now).done c.args.hand.now) c.args.reader m ms), all);
+      done = (ms ++ m ∷ [], c.answered.ensures.done ∙ (ap (λ l. l ++ Told c.args.reader m ∷ []) c.loop.invariant.done.1 ∙ one_more_answer_load ((g.D.Dict.hands c.args.context.now.dict.now).done c.args.hand.now) c.args.reader m ms), all);
     }

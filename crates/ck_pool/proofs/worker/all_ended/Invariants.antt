@@ -1,6 +1,6 @@
 use Rattle.std.proofs.Common.{◌≡◌, ◌<◌, ℕ, Some, None}
 use Rattle.std.specs.Prelude.{slice_get}
-use Rattle.ck_pool.specs.declared.query.QueryRun.{QueryRun}
+use Rattle.ck_pool.specs.declared.query_run.QueryRun.{QueryRun}
 use Rattle.ck_pool.proofs.worker.all_ended.Given as goal
 
 abbrev pub invariant-loop-run : goal.invariant-loop-run

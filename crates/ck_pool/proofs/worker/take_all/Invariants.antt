@@ -1,7 +1,7 @@
 use Rattle.std.proofs.Common.{◌≡◌}
 use Rattle.ck_run.specs.Tokens.{table}
 use Rattle.ck_pool.specs.Desk.{IsClerkOf}
-use Rattle.ck_pool.specs.Working.{AreRuns, HasRuns, MayDequeue}
+use Rattle.ck_pool.specs.Working.{AreQueryRuns, HasRuns, MayDequeue}
 use Rattle.ck_pool.proofs.worker.take_all.Given as goal
 
 abbrev pub invariant-loop : goal.invariant-loop
@@ -10,6 +10,6 @@ invariant-loop g l = record {
   parts : l.clerk.known.parts ≡ l.fn.clerk.known.parts;
   ring : table l.consumer ≡ l.ring;
   may : MayDequeue l.consumer;
-  each : AreRuns (g.D.Dict.eyes l.context.dict.now) l.desk.eyes l.asks l.runs.items;
+  each : AreQueryRuns (g.D.Dict.eyes l.context.dict.now) l.desk.eyes l.asks l.runs.items;
   all : HasRuns l.clerk l.runs.items;
 }

@@ -3,9 +3,9 @@ use Rattle.std.specs.Prelude.{slice_get}
 use Rattle.std.proofs.lemmas.List.{append-nil, take_all}
 use Rattle.ck_script.specs.declared.line.Numbered.{Numbered}
 use Rattle.ck_script.specs.declared.line.AskLine.{AskLine}
-use Rattle.ck_pool.specs.Runs.{unmet, QueriesRan}
+use Rattle.ck_pool.specs.Runs.{short_loads, QueriesRan}
 use Rattle.ck_pool.proofs.Running.{get_at, take_one_more, halts, goes_on}
-use Rattle.ck_pool.proofs.queries.run_from.Goals as goal
+use Rattle.ck_pool.proofs.query_lines.run_from.Goals as goal
 
 pub loop-i-init : goal.loop-i-init
 loop-i-init g c = record {
@@ -23,7 +23,7 @@ returns-then-not-branch-clause-ran g c =
     let inv = c.loop-i.invariant.ran in
     let fact : c.in_ok-run_line.field-0 ≡ false = search rules in
     let two = rw fact at c.in_ok-run_line.ensures.ran in
-    let load = unmet two.0 (two.1 ∷ []) in
+    let load = short_loads two.0 (two.1 ∷ []) in
     let here : slice_get lines i ≡ Some line = get_at lines i line c.loop-i-test.true c.index-lines-i.is in (
       inv.0 ++ load,
       two.3 ∙ (ap (λ l. l ++ load) inv.1 ∙ append_assoc ((g.D.Dict.eyes c.args.context.now.dict.now).done c.args.eye.now) inv.0 load),

@@ -2,9 +2,10 @@ use Rattle.std.proofs.Common.{◌≡◌, ◌≤◌, length, List, Some, sym, sub
 use Rattle.std.specs.Prelude.{slice_get}
 use Rattle.ck_script.specs.declared.line.Numbered.{Numbered}
 use Rattle.ck_script.specs.declared.line.AskLine.{AskLine}
+use Rattle.ck_pool.specs.Limits.{most_job_lines}
 use Rattle.ck_pool.proofs.Running.{get_at}
 use Rattle.ck_pool.proofs.Files.{run_is}
-use Rattle.ck_pool.proofs.query.start.Goals as goal
+use Rattle.ck_pool.proofs.query_run.start.Goals as goal
 
 pub run_file-requires-clause-calls : goal.run_file-requires-clause-calls
 run_file-requires-clause-calls g c κs within = (c.requires.files.ready c.args.file c.in-Some.eye c.in-Some.ensures.took.0).1
@@ -12,7 +13,7 @@ run_file-requires-clause-calls g c κs within = (c.requires.files.ready c.args.f
 pub run_file-requires-clause-lines : goal.run_file-requires-clause-lines
 run_file-requires-clause-lines g c κs within =
     let of : slice_get c.args.asks.now c.args.file ≡ Some c.index-asks-file.result = get_at c.args.asks.now c.args.file c.index-asks-file.result c.requires.file c.index-asks-file.is in
-    subst (λ (l : List (Numbered (AskLine g.row.D-Ask.Denot))). length l ≤ 4000000) (sym c.deref.ensures.value) (c.requires.files.short c.args.file c.index-asks-file.result of)
+    subst (λ (l : List (Numbered (AskLine g.row.D-Ask.Denot))). length l ≤ most_job_lines) (sym c.deref.ensures.value) (c.requires.files.short c.args.file c.index-asks-file.result of)
 
 pub returns-clause-ran : goal.returns-clause-ran
 returns-clause-ran g c =

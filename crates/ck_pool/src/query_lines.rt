@@ -1,9 +1,10 @@
-//! The lines of one query file.
+//! The lines of one query file, in order, as far as they can be run.
 ghost use Rattle.std.specs.Prelude.{◌≡◌, ◌+◌, ◌<◌, ◌≤◌, ◌*◌, ◌^◌, ◌++◌, ◌∷◌, [], ℕ, List, length, take, IfOk, MatchBool, Some};
 ghost use Rattle.ck_history.specs.declared.event.ReaderEvent.{ReaderEvent};
 ghost use Rattle.ck_script.specs.declared.line.AskLine.TheVariants.{Wait};
-ghost use Rattle.ck_pool.specs.Runs.{unmet, QueryLineRan, QueriesRan};
-ghost use Rattle.ck_pool.specs.Working.{IsHalted, RanTo, IsWait, AreFew};
+ghost use Rattle.ck_pool.specs.Limits.{most_job_lines, call_bound, start_call_bound};
+ghost use Rattle.ck_pool.specs.Runs.{short_loads, QueryLineRan, QueriesRan};
+ghost use Rattle.ck_pool.specs.Working.{IsHalted, RanTo, IsWaitLine, AreFew};
 
 use crate::context::Context;
 use crate::dict::Dict;
@@ -20,7 +21,7 @@ fn run_line<D: Dict, G: Gate, R: Wait>(
     answers: &mut Vec<D::Answer>,
 ) -> Result<bool, AllocError>
     requires ready { (D.eyes context.now.dict.now).ready eye.old }
-    requires calls { (D.eyes context.now.dict.now).calls eye.old < 2 ^ 39 }
+    requires calls { (D.eyes context.now.dict.now).calls eye.old < call_bound }
     ensures ready { (D.eyes context.now.dict.now).ready eye.new }
     ensures calls { (D.eyes context.now.dict.now).calls eye.new ≤ (D.eyes context.now.dict.now).calls eye.old + 8 }
     ensures number { (D.eyes context.now.dict.now).number eye.new ≡ (D.eyes context.now.dict.now).number eye.old }
@@ -29,7 +30,7 @@ fn run_line<D: Dict, G: Gate, R: Wait>(
         × ((D.eyes context.now.dict.now).done eye.new ≡ (D.eyes context.now.dict.now).done eye.old ++ events)
         × (answers.new.items ≡ answers.old.items ++ b) × QueryLineRan line.now events b)
         ((n : ℕ) × (count : ℕ) × (line.now ≡ Wait n)
-        × ((D.eyes context.now.dict.now).done eye.new ≡ (D.eyes context.now.dict.now).done eye.old ++ unmet n (count ∷ []))
+        × ((D.eyes context.now.dict.now).done eye.new ≡ (D.eyes context.now.dict.now).done eye.old ++ short_loads n (count ∷ []))
         × ((D.eyes context.now.dict.now).calls eye.new ≡ (D.eyes context.now.dict.now).calls eye.old) × (answers.new.items ≡ answers.old.items))) }
 {
     match line {
@@ -52,8 +53,8 @@ pub fn run_from<D: Dict, G: Gate, R: Wait>(
     answers: &mut Vec<D::Answer>,
 ) -> Result<Option<usize>, AllocError>
     requires ready { (D.eyes context.now.dict.now).ready eye.old }
-    requires calls { (D.eyes context.now.dict.now).calls eye.old ≤ 2 ^ 38 + 8 * next }
-    requires lines { (next ≤ length lines.now) × (length lines.now ≤ 4000000) }
+    requires calls { (D.eyes context.now.dict.now).calls eye.old ≤ start_call_bound + 8 * next }
+    requires lines { (next ≤ length lines.now) × (length lines.now ≤ most_job_lines) }
     ensures ready { (D.eyes context.now.dict.now).ready eye.new }
     ensures number { (D.eyes context.now.dict.now).number eye.new ≡ (D.eyes context.now.dict.now).number eye.old }
     ensures calls { IfOk result (λ waits_at. AreFew ((D.eyes context.now.dict.now).calls eye.new) waits_at) }
@@ -81,9 +82,9 @@ pub fn retry_wait<D: Dict, G: Gate, R: Wait>(
     answers: &mut Vec<D::Answer>,
 ) -> Result<Option<usize>, AllocError>
     requires ready { (D.eyes context.now.dict.now).ready eye.old }
-    requires calls { (D.eyes context.now.dict.now).calls eye.old ≤ 2 ^ 38 + 8 * at }
-    requires lines { length lines.now ≤ 4000000 }
-    requires waits { IsWait lines.now at }
+    requires calls { (D.eyes context.now.dict.now).calls eye.old ≤ start_call_bound + 8 * at }
+    requires lines { length lines.now ≤ most_job_lines }
+    requires waits { IsWaitLine lines.now at }
     ensures ready { (D.eyes context.now.dict.now).ready eye.new }
     ensures number { (D.eyes context.now.dict.now).number eye.new ≡ (D.eyes context.now.dict.now).number eye.old }
     ensures calls { IfOk result (λ waits_at. AreFew ((D.eyes context.now.dict.now).calls eye.new) waits_at) }

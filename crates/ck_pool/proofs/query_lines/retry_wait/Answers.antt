@@ -1,8 +1,8 @@
 use Rattle.std.proofs.Common.{◌≡◌, ◌+◌, ◌<◌, ◌∙◌, [], ◌∷◌, ◌++◌, length, take, true, false, Some, rules, ap, append_assoc, arith}
 use Rattle.std.specs.Prelude.{slice_get}
-use Rattle.ck_pool.specs.Runs.{unmet}
+use Rattle.ck_pool.specs.Runs.{short_loads}
 use Rattle.ck_pool.proofs.Running.{get_at, get_lt, take_one_more, halts_again, resumes}
-use Rattle.ck_pool.proofs.queries.retry_wait.Goals as goal
+use Rattle.ck_pool.proofs.query_lines.retry_wait.Goals as goal
 
 pub returns-then-not-branch-clause-ran : goal.returns-then-not-branch-clause-ran
 returns-then-not-branch-clause-ran g c =
@@ -13,7 +13,7 @@ returns-then-not-branch-clause-ran g c =
     let fact : c.in_ok-run_line.field-0 ≡ false = search rules in
     let two = rw fact at c.in_ok-run_line.ensures.ran in
     let here : slice_get lines i ≡ Some line = get_at lines i line lt c.index-lines-at.is in (
-      unmet two.0 (two.1 ∷ []),
+      short_loads two.0 (two.1 ∷ []),
       two.3,
       halts_again lines i c.args.answers.now.items c.run_line.new.answers.items two.0 two.1 line here two.2 two.5,
     )

@@ -1,12 +1,13 @@
-//! A query file that is run.
+//! A query file that a task has taken: how it is started, and how it goes on from a `wait`.
 ghost use Rattle.std.specs.Prelude.{◌≡◌, ◌+◌, ◌<◌, ◌≤◌, ◌^◌, ◌∷◌, length, slice_get, IfOk, MatchOption, None};
+ghost use Rattle.ck_pool.specs.Limits.{most_job_lines, start_call_bound};
 ghost use Rattle.ck_pool.specs.Desk.{occurrences, all_parts, IsClerkOf};
-ghost use Rattle.ck_pool.specs.Working.{IsFileRun, IsRun, AreOnDesk};
+ghost use Rattle.ck_pool.specs.Working.{IsFileRun, IsQueryRun, AreOnDesk};
 
 use crate::context::Context;
 use crate::desk::{Clerk, Desk};
 use crate::dict::Dict;
-use crate::queries::{retry_wait, run_from};
+use crate::query_lines::{retry_wait, run_from};
 use ck_io::Gate;
 use ck_script::{AskLine, Numbered};
 use crossbeam_utils::Backoff;
@@ -25,26 +26,26 @@ pub struct QueryRun<E, B> {
 // Runs a file from its first line on.
 fn run_file<D: Dict, G: Gate, R: Wait>(
     context: &Context<D, G, R>,
-    mut eye: D::Eye,
+    eye: D::Eye,
     file: usize,
     lines: &[Numbered<AskLine<D::Ask>>],
 ) -> Result<QueryRun<D::Eye, D::Answer>, AllocError>
     requires ready { (D.eyes context.now.dict.now).ready eye }
-    requires calls { (D.eyes context.now.dict.now).calls eye < 2 ^ 38 }
+    requires calls { (D.eyes context.now.dict.now).calls eye < start_call_bound }
     requires file { file < 2 ^ 63 }
-    requires lines { length lines.now ≤ 4000000 }
+    requires lines { length lines.now ≤ most_job_lines }
     ensures file { IfOk result (λ r. r.file ≡ file) }
     ensures run { IfOk result (λ r. IsFileRun (D.eyes context.now.dict.now) eye lines.now r) }
 {
-    let mut answers = Vec::new(context.alloc);
-    let who = file as u64 + 1;
-    let waits_at = run_from(context, who, &mut eye, lines, 0, &mut answers)?;
-    Ok(QueryRun {
+    let mut run = QueryRun {
         file,
         eye,
-        answers,
-        waits_at,
-    })
+        answers: Vec::new(context.alloc),
+        waits_at: None,
+    };
+    let who = file as u64 + 1;
+    run.waits_at = run_from(context, who, &mut run.eye, lines, 0, &mut run.answers)?;
+    Ok(run)
 }
 
 /// Takes a file's eye, and runs the file from its first line on. `None` where another has taken it.
@@ -61,7 +62,7 @@ pub fn start<D: Dict, G: Gate, R: Wait>(
     ensures clerk { IsClerkOf desk.now clerk.new × (clerk.new.known.parts ≡ clerk.old.known.parts) }
     ensures ran { IfOk result (λ o. MatchOption o
         ((clerk.new ≡ clerk.old) × (clerk.old.known.parts ≡ all_parts → occurrences file clerk.old.known.took ≡ 1))
-        (λ r. (r.file ≡ file) × IsRun (D.eyes context.now.dict.now) desk.now.eyes asks.now r × (clerk.new.known.took ≡ file ∷ clerk.old.known.took))) }
+        (λ r. (r.file ≡ file) × IsQueryRun (D.eyes context.now.dict.now) desk.now.eyes asks.now r × (clerk.new.known.took ≡ file ∷ clerk.old.known.took))) }
 {
     let Some(eye) = desk.take(clerk, file) else {
         return Ok(None);
@@ -77,42 +78,33 @@ pub fn load_again<D: Dict, G: Gate, R: Wait>(
     asks: &[Vec<Numbered<AskLine<D::Ask>>>],
     run: QueryRun<D::Eye, D::Answer>,
 ) -> Result<QueryRun<D::Eye, D::Answer>, AllocError>
-    requires run { IsRun (D.eyes context.now.dict.now) desk.now.eyes asks.now run }
+    requires run { IsQueryRun (D.eyes context.now.dict.now) desk.now.eyes asks.now run }
     requires files { AreOnDesk (D.eyes context.now.dict.now) desk.now.eyes asks.now }
     ensures file { IfOk result (λ r. r.file ≡ run.file) }
-    ensures run { IfOk result (λ r. IsRun (D.eyes context.now.dict.now) desk.now.eyes asks.now r) }
+    ensures run { IfOk result (λ r. IsQueryRun (D.eyes context.now.dict.now) desk.now.eyes asks.now r) }
 {
     let Some(at) = run.waits_at else {
         return Ok(run);
     };
-    let QueryRun {
-        file,
-        mut eye,
-        mut answers,
-        ..
-    } = run;
-    let who = file as u64 + 1;
-    let lines = asks[file].as_slice();
-    let waits_at = retry_wait(context, who, &mut eye, lines, at, &mut answers)?;
-    Ok(QueryRun {
-        file,
-        eye,
-        answers,
-        waits_at,
-    })
+    let mut run = run;
+    let who = run.file as u64 + 1;
+    let lines = asks[run.file].as_slice();
+    run.waits_at = retry_wait(context, who, &mut run.eye, lines, at, &mut run.answers)?;
+    Ok(run)
 }
 
-/// Runs a file to its end. The updates are made before or beside it, by another task.
+/// Runs a file to its end, by loading again and again where it stands at a `wait`. Called after the join, when all updates have been made: no
+/// other task is left that could find no memory, so it doesn't look at the flag.
 pub fn finish<D: Dict, G: Gate, R: Wait>(
     context: &Context<D, G, R>,
     desk: &Desk<D::Eye>,
     asks: &[Vec<Numbered<AskLine<D::Ask>>>],
     run: QueryRun<D::Eye, D::Answer>,
 ) -> Result<QueryRun<D::Eye, D::Answer>, AllocError>
-    requires run { IsRun (D.eyes context.now.dict.now) desk.now.eyes asks.now run }
+    requires run { IsQueryRun (D.eyes context.now.dict.now) desk.now.eyes asks.now run }
     requires files { AreOnDesk (D.eyes context.now.dict.now) desk.now.eyes asks.now }
     ensures file { IfOk result (λ r. r.file ≡ run.file) }
-    ensures run { IfOk result (λ r. IsRun (D.eyes context.now.dict.now) desk.now.eyes asks.now r) }
+    ensures run { IfOk result (λ r. IsQueryRun (D.eyes context.now.dict.now) desk.now.eyes asks.now r) }
     ensures ended { IfOk result (λ r. r.waits_at ≡ None) }
 {
     let backoff = Backoff::new();

@@ -1,9 +1,0 @@
-use Rattle.std.proofs.Common.{◌≡◌}
-use Rattle.ck_pool.specs.Working.{IsRun}
-use Rattle.ck_pool.proofs.query.finish.Given as goal
-
-abbrev pub invariant-loop : goal.invariant-loop
-invariant-loop g l = record {
-  file : l.run.file ≡ l.fn.run.file;
-  run : IsRun (g.D.Dict.eyes l.context.dict.now) l.desk.eyes l.asks l.run;
-}
