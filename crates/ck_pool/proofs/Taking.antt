@@ -13,12 +13,17 @@ use Rattle.atomic_table.specs.Seated.{TableId}
 use Rattle.atomic_table.proofs.Lists.{at_set, at_snoc, set_else, set_again}
 use Rattle.ck_pool.specs.declared.known.Known.{Known}
 use Rattle.ck_run.specs.Rule.{total}
-use Rattle.ck_run.proofs.Keeps.{total-set, total-snoc, term_le}
+use Rattle.ck_run.proofs.Keeps.{total-set, total-snoc}
 use Rattle.ck_pool.specs.Desk.{occurrences, all_parts, IsDesk, TookEye, GaveBack, first_known, fewer, one_part, known_of_both, spent, DeskView, ClerkView, IsClerkOf}
 use Rattle.std.proofs.Math.ListN.{length-set}
 
 -- sums over all views
 module _ {V : Type 0} where
+  term_le : (f : V → ℕ) (vs : List V) (i : ℕ) (v : V) → get_elem? vs i ≡ some v → f v ≤ total f vs
+  term_le f [] i v e = absurd (some-ne-none v (sym e))
+  term_le f (x ∷ xs) zero v e = let h : f x ≡ f v = ap f (some-injective x v e) in omega arith
+  term_le f (x ∷ xs) (suc i) v e = let h = term_le f xs i v e in omega arith
+
   all_idle : (p f : V → ℕ) (vs : List V) → total p vs ≡ 0 → ((i : ℕ) (u : V) → get_elem? vs i ≡ some u → p u ≡ 0 → f u ≡ 0) → total f vs ≡ 0
   all_idle p f [] none idle = refl
   all_idle p f (x ∷ xs) none idle =
