@@ -6,7 +6,7 @@ use Rattle.ck_ring.specs.declared.answers.Take.{Take}
 use Rattle.ck_ring.specs.declared.answers.Take.TheVariants.{Item, Lost, Empty}
 use Rattle.ck_ring.specs.State.{Token, state}
 use Rattle.ck_ring.specs.Calls.{IsLater, Tries}
-use Rattle.ck_pool.specs.Working.{KnowsHead, MayDequeue, MayDequeueAgain}
+use Rattle.ck_pool.specs.Working.{WorkerKnowsHead, MayDequeue, MayDequeueAgain}
 
 -- the last of a list
 last_of : {A : Type 0} (xs : List A) (x : A) → get_elem? (xs ++ x ∷ []) (length xs) ≡ some x
@@ -17,11 +17,11 @@ last_in : {A : Type 0} (xs ys : List A) (x : A) → ys ≡ xs ++ x ∷ [] → ge
 last_in xs ys x whole = ap (λ l. get_elem? l (length xs)) whole ∙ last_of xs x
 
 -- a position that it loads isn't below a head that it knows
-not_below : (c : Token) (p head : ℕ) → IsLater c p → KnowsHead c head → head ≤ p
+not_below : (c : Token) (p head : ℕ) → IsLater c p → WorkerKnowsHead c head → head ≤ p
 not_below c p head later (inl (k, at)) = later.risen k head at
 not_below c p head later (inr (k, x, at, is)) = let lt = later.above k x at in omega arith
 
-by_head : (c : Token) (p : ℕ) → IsLater c p → ((state c).calls ≡ 0) ⊎ ((head : ℕ) × KnowsHead c head × ((state c).calls ≤ head)) → (state c).calls ≤ p
+by_head : (c : Token) (p : ℕ) → IsLater c p → ((state c).calls ≡ 0) ⊎ ((head : ℕ) × WorkerKnowsHead c head × ((state c).calls ≤ head)) → (state c).calls ≤ p
 by_head c p later (inl none) = omega (arith, none)
 by_head c p later (inr (head, knows, le)) = let at = not_below c p head later knows in omega arith
 

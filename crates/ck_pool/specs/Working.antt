@@ -110,15 +110,15 @@ pub record IsWorker {E : Type 0} (d : DeskView E) (ring : Table (Unit {0})) (w :
   pub calls : (state w.consumer).calls ≡ 0
 
 -- the consumer loaded or found this head, or took the position before it
-abbrev pub KnowsHead : Token → ℕ → Type 0
-KnowsHead c head =
+abbrev pub WorkerKnowsHead : Token → ℕ → Type 0
+WorkerKnowsHead c head =
     ((k : ℕ) × (get_elem? (state c).heads k ≡ some head))
     ⊎ ((k : ℕ) × (x : ℕ × ℕ) × (get_elem? (state c).took k ≡ some x) × (head ≡ x.0 + 1))
 
 -- Each answer but Empty raised the head that the consumer knows, so that it made no more calls than that. A head that it loads is at most 2^40 - 8
 pub record MayDequeue (c : Token) : Type 0 where
   pub few : (state c).calls ≤ 2 ^ 40 - 7
-  pub head : ((state c).calls ≡ 0) ⊎ ((head : ℕ) × KnowsHead c head × ((state c).calls ≤ head))
+  pub head : ((state c).calls ≡ 0) ⊎ ((head : ℕ) × WorkerKnowsHead c head × ((state c).calls ≤ head))
 
 -- it may ask the ring again unless the ring was empty
 abbrev pub MayDequeueAgain : Take → Token → Type 0
