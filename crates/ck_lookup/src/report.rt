@@ -70,5 +70,13 @@ pub fn put_job<R: Threads + Wait + Sync, K: Sink, G: Gate + Sync>(
 {
     let answered = run_over_snap(rt, alloc, job, workers, gate)?;
     let asked = asked_files(alloc, &job.asks, &answered.answers)?;
-    put_report(alloc, sink, &answered.replies, &asked, &answered.pairs)
+    put_report(
+        rt,
+        alloc,
+        workers as u8,
+        sink,
+        &answered.replies,
+        &asked,
+        &answered.pairs,
+    )
 }

@@ -6,3 +6,4 @@ pub mod Stepping
 pub mod Faults
 pub mod FirstLine
 pub mod Streaming
+mod Blocks

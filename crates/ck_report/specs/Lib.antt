@@ -2,4 +2,5 @@ pub mod Text
 pub mod Reports
 pub mod Lines
 pub mod Streaming
+pub mod Numbered
 pub mod Tails

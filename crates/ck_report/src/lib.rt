@@ -5,12 +5,14 @@
 mod asked;
 mod gather;
 mod line;
+mod lines;
 mod map_report;
 mod place;
 mod print;
 mod put;
 mod read;
 mod read_line;
+mod tasks;
 #[cfg(test)]
 mod tests;
 

@@ -4,14 +4,17 @@ ghost use Rattle.ck_io.specs.Faults.{Rose};
 ghost use Rattle.ck_io.specs.Sink.{appended, AppendsPrefix};
 ghost use Rattle.ck_report.specs.declared.put.PutError.TheVariants.{Failed, Memory};
 ghost use Rattle.ck_report.specs.Text.{report_text, reply_lines, answer_lines, file_lines, pair_lines};
+ghost use Rattle.ck_report.specs.Numbered.{numbered};
 ghost use Rattle.ck_report.specs.Streaming.{IsStreamed, IsPutCause};
 
 use crate::asked::Asked;
-use crate::print::{print_answer, print_pair, print_reply};
+use crate::lines::{Answers, LinePrinter, Pairs, Replies};
+use crate::tasks::Tasks;
 use ck_history::Reply;
 use ck_io::{Sink, SinkFailed, put_all};
 use ck_script::KeyWord;
 use std::alloc::{AllocError, Global};
+use std::thread::Threads;
 
 /// Why a report wasn't put whole.
 #[derive(Clone, Copy, PartialEq, Eq, Debug)]
@@ -45,13 +48,17 @@ const PIECE: usize = 65536;
 /// than one, so fewer bytes are moved than put.
 const FULL: usize = 2 * PIECE;
 
-/// How many bytes the buffer has room for: no line of a table's report is longer than 128 bytes.
-const ROOM: usize = FULL + 128;
+/// How many bytes the buffer has room for where one task prints: 64 lines at a time, of which none is longer than 128
+/// bytes in a table's report.
+const ROOM: usize = FULL + 64 * 128;
 
 /// Puts a report: the replies, the answers of each query file, and the pairs at the end. It offers to each put all that is
-/// left, or the next 65,536 bytes where more is left. Where it fails, the sink took a prefix of the report.
-pub fn put_report<S: Sink, K: KeyWord>(
+/// left, or the next 65,536 bytes where more is left. Where it fails, the sink took a prefix of the report. Up to `tasks`
+/// tasks print the lines of a part that has many; what is put doesn't hang on how many.
+pub fn put_report<R: Threads + Sync, S: Sink, K: KeyWord + Sync>(
+    rt: &R,
     alloc: Global,
+    tasks: u8,
     sink: &mut S,
     replies: &[Reply],
     answers: &[Vec<Asked<K>>],
@@ -63,9 +70,14 @@ pub fn put_report<S: Sink, K: KeyWord>(
     ensures lasting { S.faults sink.old ≤ S.faults sink.new }
 {
     let mut buffer = Vec::with_capacity(alloc, ROOM)?;
-    put_replies(sink, &mut buffer, replies)?;
-    put_files(sink, &mut buffer, answers)?;
-    put_pairs(sink, &mut buffer, pairs)?;
+    let tasks = Tasks {
+        rt,
+        alloc,
+        count: tasks,
+    };
+    put_replies(&tasks, sink, &mut buffer, replies)?;
+    put_files(&tasks, sink, &mut buffer, answers)?;
+    put_pairs(&tasks, sink, &mut buffer, pairs)?;
     put_end(sink, &mut buffer)
 }
 
@@ -122,7 +134,8 @@ fn put_end<S: Sink>(sink: &mut S, buffer: &mut Vec<u8>) -> Result<(), PutError>
 }
 
 // The lines of the replies.
-fn put_replies<S: Sink>(
+fn put_replies<R: Threads + Sync, S: Sink>(
+    tasks: &Tasks<R>,
     sink: &mut S,
     buffer: &mut Vec<u8>,
     replies: &[Reply],
@@ -132,17 +145,12 @@ fn put_replies<S: Sink>(
     ensures cause { IfErr result (λ error. IsPutCause error (S.faults sink.old) (S.faults sink.new)) }
     ensures lasting { S.faults sink.old ≤ S.faults sink.new }
 {
-    let mut i: u64 = 0;
-    for reply in replies {
-        i += 1;
-        print_reply(buffer, i, reply)?;
-        put_full(sink, buffer)?;
-    }
-    Ok(())
+    put_lines(tasks, sink, buffer, &Replies, replies)
 }
 
 // The lines of the answers of each file.
-fn put_files<S: Sink, K: KeyWord>(
+fn put_files<R: Threads + Sync, S: Sink, K: KeyWord + Sync>(
+    tasks: &Tasks<R>,
     sink: &mut S,
     buffer: &mut Vec<u8>,
     files: &[Vec<Asked<K>>],
@@ -155,13 +163,14 @@ fn put_files<S: Sink, K: KeyWord>(
     let mut f: u64 = 0;
     for answers in files {
         f += 1;
-        put_answers(sink, buffer, f, answers)?;
+        put_answers(tasks, sink, buffer, f, answers)?;
     }
     Ok(())
 }
 
 // The lines of the answers of one file.
-fn put_answers<S: Sink, K: KeyWord>(
+fn put_answers<R: Threads + Sync, S: Sink, K: KeyWord + Sync>(
+    tasks: &Tasks<R>,
     sink: &mut S,
     buffer: &mut Vec<u8>,
     f: u64,
@@ -172,17 +181,12 @@ fn put_answers<S: Sink, K: KeyWord>(
     ensures cause { IfErr result (λ error. IsPutCause error (S.faults sink.old) (S.faults sink.new)) }
     ensures lasting { S.faults sink.old ≤ S.faults sink.new }
 {
-    let mut i: u64 = 0;
-    for answer in answers {
-        i += 1;
-        print_answer(buffer, f, i, answer)?;
-        put_full(sink, buffer)?;
-    }
-    Ok(())
+    put_lines(tasks, sink, buffer, &Answers { file: f }, answers)
 }
 
 // The lines of the pairs.
-fn put_pairs<S: Sink, K: KeyWord>(
+fn put_pairs<R: Threads + Sync, S: Sink, K: KeyWord + Sync>(
+    tasks: &Tasks<R>,
     sink: &mut S,
     buffer: &mut Vec<u8>,
     pairs: &[(K, u64)],
@@ -192,9 +196,31 @@ fn put_pairs<S: Sink, K: KeyWord>(
     ensures cause { IfErr result (λ error. IsPutCause error (S.faults sink.old) (S.faults sink.new)) }
     ensures lasting { S.faults sink.old ≤ S.faults sink.new }
 {
-    for pair in pairs {
-        print_pair(buffer, &pair.0, pair.1)?;
+    put_lines(tasks, sink, buffer, &Pairs, pairs)
+}
+
+// The lines of some items, put round by round.
+fn put_lines<R: Threads + Sync, S: Sink, T: Sync, P: LinePrinter<T> + Sync>(
+    tasks: &Tasks<R>,
+    sink: &mut S,
+    buffer: &mut Vec<u8>,
+    printer: &P,
+    items: &[T],
+) -> Result<(), PutError>
+    ensures ok { OnOk result (IsStreamed (S.taken sink.old) (S.taken sink.new) (buffer.old.items ++ numbered (P.line printer.now) 0 items.now) buffer.new.items) }
+    ensures err { OnErr result (AppendsPrefix (S.taken sink.old) (S.taken sink.new) (buffer.old.items ++ numbered (P.line printer.now) 0 items.now)) }
+    ensures cause { IfErr result (λ error. IsPutCause error (S.faults sink.old) (S.faults sink.new)) }
+    ensures lasting { S.faults sink.old ≤ S.faults sink.new }
+{
+    let mut rest = items;
+    let mut before: u64 = 0;
+    while !rest.is_empty() {
+        let count = tasks.round(rest.len());
+        let (now, later) = rest.split_at(count);
+        tasks.print_lines(buffer, printer, before, now)?;
         put_full(sink, buffer)?;
+        before += count as u64;
+        rest = later;
     }
     Ok(())
 }
