@@ -1,6 +1,7 @@
 mod Emptying
 pub mod FourLists
 pub mod OpenSections
+pub mod Timely
 mod Records
 mod RecordsKept
 mod WriterKept

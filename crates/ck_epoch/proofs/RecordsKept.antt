@@ -1,28 +1,22 @@
 -- What a step of the writer keeps of one record and of its pass's stage.
-use Rattle.std.proofs.Common.{◌≡◌, ℕ, ◌+◌, ◌-◌, ◌%◌, ◌<◌, ◌≤◌, Bool, true, false, not, cond, Option, Some, None, List, [], ◌∷◌, ◌++◌, get_or, All, refl, sym, ap, ◌∙◌, subst, arith}
-use Rattle.std.proofs.lemmas.Bool.{eqb-true}
-use Rattle.std.proofs.lemmas.List.Elements.{All-filter, All-append, All-push, All-nil, filter_passes}
+use Rattle.std.proofs.Common.{◌≡◌, ℕ, ◌+◌, ◌-◌, ◌%◌, ◌<◌, ◌≤◌, Bool, true, false, not, cond, Option, Some, None, List, [], ◌∷◌, ◌++◌, All, refl, sym, ap, ◌∙◌, subst, arith}
+use Rattle.std.proofs.lemmas.List.Elements.{All-filter, All-append, All-push, All-nil}
 use native.Mathlib.Decide.{ℕ_discrete}
 use mathlib.Core.Logic.{dite}
 use Rattle.ck_run.specs.declared.account.Entry.{Entry}
 use Rattle.ck_run.specs.Run.{index_in, Run}
 use Rattle.ck_epoch.specs.Lists.{is_on}
-use Rattle.ck_epoch.specs.State.{Task, polling, first_round, second_round, Stage, holding, inside, free, scanning, comparing, between, Retirement, TokenState, on_list, list_by_list, dispatch, dispatch_all}
+use Rattle.ck_epoch.specs.State.{Task, polling, first_round, second_round, Stage, inside, free, scanning, comparing, between, Retirement, TokenState, list_by_list, dispatch, dispatch_all}
 use Rattle.ck_epoch.specs.Epochs.{IsPassed}
 use Rattle.ck_epoch.specs.Held.{active_of, IsTimely, IsAtGlobal, IsQuiet, halfway, GuardsSection, IsOpenAt, IsRecordHeld}
 use Rattle.ck_run.proofs.Runs.{count, index_stays}
 use Rattle.ck_epoch.proofs.OpenSections.{open_else}
+use Rattle.ck_epoch.proofs.Timely.{two_back, one_back, All-four, Bounded, list_goes, all_go, idle_current, own_current, timely_up}
 use Rattle.ck_epoch.proofs.Records.{AreMade, open_along}
 
 -- the state with another stage
 abbrev pub at_stage : TokenState → Stage → TokenState
 at_stage w s = record w { stage = s }
-
-two_back : (x E : ℕ) → x ≤ E → 4 ≤ E → x % 4 ≡ (E - 2) % 4 → x ≤ E - 2
-two_back x E le late same = omega arith
-
-one_back : (x E : ℕ) → x ≤ E → 4 ≤ E → x % 4 ≡ (E - 1) % 4 → x ≤ E - 1
-one_back x E le late same = omega arith
 
 pub none_some : {A : Type 0} (x : ℕ) → None ≡ Some x → A
 none_some x e = absurd cc
@@ -34,51 +28,6 @@ open_maps : (global global' r : ℕ) (older : ℕ → Type 0) (w w' : TokenState
     → ((d x : ℕ) → g ≡ inside d x → GuardsSection global older r x w → GuardsSection global' older r x w') → IsOpenAt global older r w g → IsOpenAt global' older r w' g
 open_maps global global' r older w w' (inside d x) f h = f d x refl h
 open_maps global global' r older w w' g f h = h
-
--- an older section is not older than what is dispatched
-All-both : {X : Type 0} (P Q R : X → Type 0) → ((x : X) → P x → Q x → R x) → (xs : List X) → All P xs → All Q xs → All R xs
-All-both P Q R f xs p q k d l = f (get_or xs k d) (p k d l) (q k d l)
-
-pub All-four : (P : Retirement → Type 0) (items : List Retirement) → All P items → All P (list_by_list items)
-All-four P items h = All-append P (on_list 0 items) (on_list 1 items ++ (on_list 2 items ++ on_list 3 items)) (All-filter (λ (k : Retirement). is_on 0 k.retired) P items h)
-    (All-append P (on_list 1 items) (on_list 2 items ++ on_list 3 items) (All-filter (λ (k : Retirement). is_on 1 k.retired) P items h)
-    (All-append P (on_list 2 items) (on_list 3 items) (All-filter (λ (k : Retirement). is_on 2 k.retired) P items h) (All-filter (λ (k : Retirement). is_on 3 k.retired) P items h)))
-
--- the epoch of a pending item
-abbrev Bounded : ℕ → ℕ → Retirement → Type 0
-Bounded global up k = k.retired.epoch + up ≤ global
-
--- Of the pending items those may be dispatched of which the section, whose epoch is x, is not older
-module _ (older : ℕ → Type 0) (x global up : ℕ) (w : TokenState) (late : All (λ (k : Retirement). older k.number → x ≤ k.retired.epoch) w.pending)
-    (gone : All (λ (k : Retirement). ¬ older k.number) w.dispatched) (low : All (Bounded global up) w.pending) where
-  abbrev Younger : Retirement → Type 0
-  Younger k = ¬ older k.number
-
-  list_goes : (list : ℕ) → ((e : ℕ) → e % 4 ≡ list → x ≤ e → e + up ≤ global → ⊥) → All Younger (w.dispatched ++ on_list list w.pending)
-  list_goes list may = All-append Younger w.dispatched (on_list list w.pending) gone
-      (λ k d l o. let test : Retirement → Bool = λ k. is_on list k.retired in let item = get_or (on_list list w.pending) k d in
-      may item.retired.epoch (eqb-true (item.retired.epoch % 4) list (filter_passes test w.pending k d l))
-      (All-filter test (λ (k : Retirement). older k.number → x ≤ k.retired.epoch) w.pending late k d l o) (All-filter test (Bounded global up) w.pending low k d l))
-
-  all_go : ((e : ℕ) → x ≤ e → e + up ≤ global → ⊥) → All Younger (w.dispatched ++ list_by_list w.pending)
-  all_go may = All-append Younger w.dispatched (list_by_list w.pending) gone
-      (All-four Younger w.pending (λ k d l o. may (get_or w.pending k d).retired.epoch (late k d l o) (low k d l)))
-
--- a record that is inactive has no epoch, and one whose epoch is the global one has that
-idle_current : (global own : ℕ) (g : Stage) → active_of g ≡ 0 → IsTimely global own g → IsAtGlobal global g
-idle_current global own (holding x) none t = absurd (omega arith)
-idle_current global own (inside d x) none t = let some = t.0 in absurd (omega arith)
-idle_current global own g none t = tt
-
-own_current : (global own : ℕ) (g : Stage) → own ≡ global → IsTimely global own g → IsAtGlobal global g
-own_current global own (holding x) at t = let a = t.0 in let b = t.2 in omega arith
-own_current global own (inside d x) at t = sym t.1 ∙ at
-own_current global own g at t = tt
-
-timely_up : (global own : ℕ) (g : Stage) → IsAtGlobal global g → IsTimely global own g → IsTimely (global + 1) own g
-timely_up global own (holding x) at t = (omega arith, omega arith, t.2)
-timely_up global own (inside d x) at t = (t.0, t.1, omega arith, omega arith)
-timely_up global own g at t = tt
 
 -- how a scan's stage tells what it has found
 quiet_before : (task : Task) (e rec : ℕ) (busy : Option ℕ) (r : ℕ) → (r ≡ rec → ⊥) → IsQuiet (scanning task e (rec + 1) busy) r → IsQuiet (scanning task e rec busy) r
@@ -183,7 +132,7 @@ module _ (past : Run) (e : Entry) (active own r : ℕ) where
     polls e is late low = stays_goes global (at_stage w free) g made h (record (dispatch (e - 2) w) { stage = scanning polling e 0 None; calls = c; steps = n }) (λ p. absurd (omega arith))
         (λ older d x inner t b. record {
           pending = All-filter (λ (k : Retirement). not (is_on ((e - 2) % 4) k.retired)) (λ (k : Retirement). older k.number → x ≤ k.retired.epoch) w.pending b.pending;
-          dispatched = list_goes older x global 0 w b.pending b.dispatched low ((e - 2) % 4)
+          dispatched = list_goes older x global 0 w.pending w.dispatched b.pending b.dispatched low ((e - 2) % 4)
               (λ y same above below. let z : global ≤ x + 1 = t.3 in let q : y ≤ global - 2 = two_back y global (omega arith) late (same ∙ ap (λ (m : ℕ). (m - 2) % 4) is) in omega arith);
           quiet = λ q. absurd (omega arith);
           half = λ first z. none_some first z;
@@ -276,7 +225,7 @@ module _ (past : Run) (e : Entry) (active own r : ℕ) where
         (rises_timely cur) (λ p. absurd p)
         (λ older d x inner b. let at : x ≡ global = subst (IsAtGlobal global) inner cur in record {
           pending = All-filter (λ (k : Retirement). not (is_on ((e' - 1) % 4) k.retired)) (λ (k : Retirement). older k.number → x ≤ k.retired.epoch) w.pending b.pending;
-          dispatched = list_goes older x global 0 w b.pending b.dispatched low ((e' - 1) % 4)
+          dispatched = list_goes older x global 0 w.pending w.dispatched b.pending b.dispatched low ((e' - 1) % 4)
               (λ y same above below. let q : y ≤ global - 1 = one_back y global (omega arith) late (same ∙ ap (λ (m : ℕ). (m - 1) % 4) is) in omega arith);
           quiet = λ q. absurd q;
           half = λ first z. none_some first z;
@@ -312,7 +261,7 @@ module _ (past : Run) (e : Entry) (active own r : ℕ) where
             → GuardsSection (global + 1) older r x (record (cond all (dispatch_all w) w) { stage = free; epoch = e' + 1; waited = Some started; steps = n })
         second_guards older x at true b half = record {
           pending = All-nil (λ (k : Retirement). older k.number → x ≤ k.retired.epoch);
-          dispatched = all_go older x global 1 w b.pending b.dispatched low (λ y above below. omega arith);
+          dispatched = all_go older x global 1 w.pending w.dispatched b.pending b.dispatched low (λ y above below. omega arith);
           quiet = λ q. absurd q;
           half = λ first z. none_some first z;
           waited = λ first z o. let same = some_same started first z in let q = half (subst older (sym same) o) in omega arith;

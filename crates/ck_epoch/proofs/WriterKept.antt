@@ -12,7 +12,8 @@ use Rattle.ck_epoch.specs.Epochs.{IsRetired}
 use Rattle.ck_epoch.specs.Held.{halfway, due, risen, IsBegun, IsScan, IsWriterHeld}
 use Rattle.ck_run.proofs.Lists.{inside}
 use Rattle.ck_epoch.proofs.Records.{AreMade}
-use Rattle.ck_epoch.proofs.RecordsKept.{at_stage, All-four, none_some, some_same}
+use Rattle.ck_epoch.proofs.Timely.{All-four}
+use Rattle.ck_epoch.proofs.RecordsKept.{at_stage, none_some, some_same}
 
 begun_more : (steps steps' : ℕ) (task : Task) → steps ≤ steps' → IsBegun steps task → IsBegun steps' task
 begun_more steps steps' polling le b = tt

@@ -9,13 +9,20 @@ use Rattle.ck_run.specs.Rule.{IsRun}
 use Rattle.ck_run.specs.Machine.{follows_of}
 use Rattle.ck_epoch.specs.State.{active_word, epoch_word, Stage, holding, scanning, comparing, depth_of, Retirement, retirement, TokenState, on_list, Origin, records_of, epochs, state_at}
 
--- The step o of the run opens a section of the record r: its pass stores the record's epoch
-abbrev pub OpensSection : Run → ℕ → ℕ → Type 0
-OpensSection run r o = (e : Entry) × (g : ℕ) × (get_elem? run o ≡ some (suc r, e)) × (e.step ≡ Store (epoch_word r) g)
+-- The step o of the run, by the token n, opens a section of the record r: it stores the record's epoch
+abbrev pub OpensBy : Run → ℕ → ℕ → ℕ → Type 0
+OpensBy run n r o = (e : Entry) × (g : ℕ) × (get_elem? run o ≡ some (n, e)) × (e.step ≡ Store (epoch_word r) g)
 
--- The step c ends it: its pass stores 0 in active
+-- The step c, by the token n, ends one: it stores 0 in active
+abbrev pub EndsBy : Run → ℕ → ℕ → ℕ → Type 0
+EndsBy run n r c = (e : Entry) × (get_elem? run c ≡ some (n, e)) × (e.step ≡ Store (active_word r) 0)
+
+-- its pass opens a section of the record r, or ends it
+abbrev pub OpensSection : Run → ℕ → ℕ → Type 0
+OpensSection run r o = OpensBy run (suc r) r o
+
 abbrev pub EndsSection : Run → ℕ → ℕ → Type 0
-EndsSection run r c = (e : Entry) × (get_elem? run c ≡ some (suc r, e)) × (e.step ≡ Store (active_word r) 0)
+EndsSection run r c = EndsBy run (suc r) r c
 
 -- A section of the record r opened at the step o, and no step of the run after it ended it
 pub record IsOpen (run : Run) (r o : ℕ) : Type 0 where

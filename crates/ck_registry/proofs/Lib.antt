@@ -1,0 +1,5 @@
+mod OpenSections
+mod Change
+mod StepKinds
+mod Keeps
+pub mod RegistryLaw
