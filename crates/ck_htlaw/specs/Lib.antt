@@ -1,0 +1,17 @@
+pub mod Trace
+pub mod Calls
+pub mod Stages
+pub mod Look
+pub mod Table
+pub mod Invariant
+pub mod Answers
+pub mod Layout
+pub mod Actions
+pub mod Client
+pub mod Host
+pub mod Laws
+pub mod Regions
+pub mod Allocation
+pub mod Linearized
+pub mod Law
+pub mod Reached
