@@ -1,5 +1,5 @@
 -- A step of one visitor: what of it is to be shown, so that a registry is held after it.
-use Rattle.std.proofs.Common.{◌≡◌, ◌≢◌, ℕ, zero, suc, ◌+◌, ◌<◌, ◌≤◌, ◌⊎◌, ⊎_elim, inl, inr, cond, ◌==◌, List, [], ◌∷◌, ◌++◌, length, length-append, All, get_or, refl, sym, ap, ◌∙◌, subst, arith}
+use Rattle.std.proofs.Common.{◌≡◌, ◌≢◌, ℕ, zero, suc, ◌+◌, ◌<◌, ◌≤◌, ◌⊎◌, ⊎_elim, List, [], ◌∷◌, ◌++◌, length, length-append, All, get_or, refl, sym, ap, ◌∙◌, subst, arith}
 use mathlib.Core.Logic.{dite}
 use native.Mathlib.Decide.{ℕ_discrete}
 use Rattle.ck_run.specs.declared.account.Entry.{Entry}
@@ -10,10 +10,10 @@ use Rattle.ck_run.proofs.Runs.{account_here, account_else, count, index_stays, i
 use Rattle.ck_epoch.specs.State.{active_word, epoch_word, Stage, Retirement, inside}
 use Rattle.ck_epoch.specs.Held.{active_of, IsTimely, IsAtGlobal}
 use Rattle.ck_epoch.proofs.Timely.{idle_current, own_current}
-use Rattle.ck_registry.specs.State.{state_word, Activity, passing, checking, ready, TokenState, IsMember, Holds}
+use Rattle.ck_registry.specs.State.{state_word, Activity, passing, checking, ready, TokenState, IsMember}
 use Rattle.ck_registry.specs.Epochs.{IsSectionOpen, HasPassed}
-use Rattle.ck_registry.specs.Held.{IsSound, IsMemberHeld, IsMemberScan, IsVisitorHeld, IsSectionGuarded, IsWithinSection, calls_below, AreMembersHeld}
-use Rattle.ck_registry.proofs.OpenSections.{retired_more, pending_more, told, are_made}
+use Rattle.ck_registry.specs.Held.{IsSound, IsMemberScan, IsVisitorHeld, IsSectionGuarded, IsWithinSection, calls_below, AreMembersHeld}
+use Rattle.ck_registry.proofs.OpenSections.{told, are_made}
 
 -- the words of a record
 abbrev pub S : ℕ → List ℕ → ℕ → ℕ

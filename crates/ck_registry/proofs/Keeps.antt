@@ -14,16 +14,16 @@ use Rattle.ck_run.specs.Run.{Run, account, words_after, Fits}
 use Rattle.ck_run.specs.Range.{word_of}
 use Rattle.ck_run.specs.Machine.{moved, IsInvariantAlong}
 use Rattle.ck_epoch.specs.Lists.{is_on}
-use Rattle.ck_epoch.specs.State.{active_word, epoch_word, Stage, outside, entering, holding, inside, at_depth, Calls, Retirement, retirement, on_list, off_list, list_by_list, first_busy}
+use Rattle.ck_epoch.specs.State.{active_word, epoch_word, Stage, outside, entering, holding, inside, at_depth, Calls, Retirement, retirement, list_by_list, first_busy}
 use Rattle.ck_epoch.specs.Epochs.{IsRetired}
 use Rattle.ck_epoch.specs.Held.{IsOfPass, active_of, IsTimely, IsAtGlobal}
 use Rattle.ck_epoch.proofs.Timely.{two_back, All-four, list_goes}
-use Rattle.ck_registry.specs.State.{state_word, Activity, away, trying, resting, passing, checking, ready, TokenState, IsMember, Holds, dispatch, dispatch_all, after_scan, after_load, after_store, after_advance, after_rest, Retires, MayLoad, after_try, after_record, after_step, next, Tries, SetsActive, HandsBack, MayRest, MayStep, scan, Origin, records_of, May}
+use Rattle.ck_registry.specs.State.{state_word, Activity, away, trying, resting, passing, checking, ready, TokenState, IsMember, dispatch, dispatch_all, after_scan, after_load, after_store, after_advance, after_rest, Retires, MayLoad, after_try, after_record, after_step, next, Tries, MayRest, MayStep, scan, Origin, records_of, May}
 use Rattle.ck_registry.specs.Epochs.{IsSectionOpen, HasPassed}
-use Rattle.ck_registry.specs.Held.{IsSound, IsMemberHeld, IsMemberScan, IsPendingItem, IsQuietScan, IsSectionGuarded, IsWithinSection, AreMembersHeld}
+use Rattle.ck_registry.specs.Held.{IsSound, IsMemberHeld, IsMemberScan, IsPendingItem, IsQuietScan, IsWithinSection, AreMembersHeld}
 use Rattle.ck_registry.proofs.OpenSections.{open_cases, open_stays, not_ended, retired_more, pending_more, told}
 use Rattle.ck_registry.proofs.Change.{S, A, W, open_facts}
-use Rattle.ck_registry.proofs.StepKinds.{IsStill, Rest, rests, Sets, sets, rises}
+use Rattle.ck_registry.proofs.StepKinds.{IsStill, rests, sets, rises}
 
 load_not_store : (w x v y : ℕ) → Load w x ≢ Store v y
 load_not_store w x v y e = cc

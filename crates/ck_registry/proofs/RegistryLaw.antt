@@ -1,5 +1,5 @@
 -- The law of a registry: what each step keeps holds at every moment of every true run, and says that the run is safe.
-use Rattle.std.proofs.Common.{◌≡◌, ℕ, zero, suc, ◌+◌, ◌%◌, ◌<◌, ◌≤◌, List, [], ◌++◌, get_or, All, sym, ap, refl, ◌∙◌, subst, arith}
+use Rattle.std.proofs.Common.{◌≡◌, ℕ, ◌+◌, ◌<◌, ◌≤◌, List, [], ◌++◌, get_or, sym, refl, ◌∙◌, subst, arith}
 use Rattle.std.proofs.lemmas.Bool.{eqb-true}
 use Rattle.std.proofs.lemmas.List.Elements.{All-filter, All-nil, filter_passes}
 use mathlib.Core.Option.{some-ne-none}
@@ -8,11 +8,11 @@ use Rattle.ck_run.specs.Rule.{IsRun}
 use Rattle.ck_run.specs.Machine.{follows_of}
 use Rattle.ck_run.proofs.Moments.{holds_along, run_before}
 use Rattle.ck_epoch.specs.Lists.{is_on}
-use Rattle.ck_epoch.specs.State.{epoch_word, Stage, holding, inside, Retirement}
+use Rattle.ck_epoch.specs.State.{epoch_word, inside, Retirement}
 use Rattle.ck_epoch.specs.Epochs.{IsRetired}
 use Rattle.ck_epoch.specs.Held.{IsTimely, IsAtGlobal}
 use Rattle.ck_registry.specs.State.{TokenState, start, Origin, records_of, IsOpening, registry, state_at}
-use Rattle.ck_registry.specs.Epochs.{IsSectionOpen, HasPassed, visitor_in, IsSafeForAllNow, IsSafeForAll, HaveOneHolder, AreSharedEpochs, KeepsSharedEpochs, IsLawful, RegistryLaw}
+use Rattle.ck_registry.specs.Epochs.{IsSectionOpen, HasPassed, visitor_in, IsSafeForAllNow, HaveOneHolder, AreSharedEpochs, RegistryLaw}
 use Rattle.ck_registry.specs.Held.{IsPendingItem, AreMembersHeld}
 use Rattle.ck_registry.proofs.Keeps.{keeps}
 

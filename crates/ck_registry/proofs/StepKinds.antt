@@ -1,23 +1,23 @@
 -- Three kinds of step: one that changes no word, one on the words of the visitor's own record, and the rise of the global epoch.
-use Rattle.std.proofs.Common.{◌≡◌, ◌≢◌, ℕ, ◌+◌, ◌-◌, ◌%◌, ◌^◌, ◌<◌, ◌≤◌, ◌⊎◌, ⊎_elim, inl, inr, not, None, Some, List, [], ◌∷◌, ◌++◌, length, All, set, get_or, length-set, get_or-set_same, get_or-set_other, refl, sym, ap, ◌∙◌, subst, arith}
+use Rattle.std.proofs.Common.{◌≡◌, ◌≢◌, ℕ, ◌+◌, ◌-◌, ◌%◌, ◌^◌, ◌<◌, ◌≤◌, ◌⊎◌, ⊎_elim, inl, not, List, [], ◌∷◌, ◌++◌, length, All, set, get_or, length-set, get_or-set_same, get_or-set_other, refl, sym, ap, ◌∙◌, subst, arith}
 use Rattle.std.proofs.lemmas.List.Elements.{All-filter, All-append}
 use mathlib.Core.Logic.{dite}
 use native.Mathlib.Decide.{ℕ_discrete}
-use Rattle.ck_run.specs.declared.account.Step.TheVariants.{Store, Exchange}
+use Rattle.ck_run.specs.declared.account.Step.TheVariants.{Store}
 use Rattle.ck_run.specs.declared.account.Entry.{Entry}
 use Rattle.ck_run.specs.Run.{Run, account}
 use Rattle.ck_run.specs.Machine.{moved}
 use Rattle.ck_run.proofs.Law.{moved_here, moved_else}
 use Rattle.ck_epoch.specs.Lists.{is_on}
-use Rattle.ck_epoch.specs.State.{active_word, epoch_word, Stage, inside, Retirement, on_list}
+use Rattle.ck_epoch.specs.State.{active_word, epoch_word, Stage, inside, Retirement}
 use Rattle.ck_epoch.specs.Epochs.{IsRetired}
 use Rattle.ck_epoch.specs.Held.{IsOfPass, IsTimely, IsAtGlobal}
-use Rattle.ck_epoch.proofs.Timely.{Bounded, one_back, list_goes, timely_up}
-use Rattle.ck_registry.specs.State.{state_word, Activity, away, trying, resting, passing, checking, ready, TokenState, IsMember, Holds, dispatch}
+use Rattle.ck_epoch.proofs.Timely.{one_back, list_goes, timely_up}
+use Rattle.ck_registry.specs.State.{state_word, Activity, away, trying, resting, passing, checking, ready, TokenState, IsMember, dispatch}
 use Rattle.ck_registry.specs.Epochs.{IsSectionOpen, HasPassed}
-use Rattle.ck_registry.specs.Held.{IsSound, IsMemberHeld, IsMemberScan, IsPendingItem, IsVisitorHeld, IsQuietScan, IsSectionGuarded, IsWithinSection, AreMembersHeld}
+use Rattle.ck_registry.specs.Held.{IsSound, IsMemberHeld, IsMemberScan, IsPendingItem, IsQuietScan, IsSectionGuarded, IsWithinSection, AreMembersHeld}
 use Rattle.ck_registry.proofs.OpenSections.{open_stays, one_longer, retired_more, pending_more, told}
-use Rattle.ck_registry.proofs.Change.{S, A, W, E, now, open_facts, found_current, Change, changes}
+use Rattle.ck_registry.proofs.Change.{S, A, W, open_facts, found_current, changes}
 
 -- not in a scan, and with none that is to be advanced
 abbrev pub IsStill : Activity → Type 0

@@ -1,5 +1,5 @@
 -- What holds at every moment of a true run, as each step keeps it: the five parts of the epochs, and what they need beside them.
-use Rattle.std.specs.Prelude.{◌≡◌, ℕ, zero, suc, ◌+◌, ◌*◌, ◌^◌, ◌<◌, ◌≤◌, Option, Some, None, List, length, slice_index, All}
+use Rattle.std.specs.Prelude.{◌≡◌, ℕ, zero, suc, ◌+◌, ◌^◌, ◌<◌, ◌≤◌, None, List, length, slice_index, All}
 use Rattle.ck_run.specs.declared.account.Entry.{Entry}
 use Rattle.ck_run.specs.Run.{Run, account, index_in}
 use Rattle.ck_epoch.specs.State.{active_word, epoch_word, Stage, inside, Retirement}
