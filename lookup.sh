@@ -2,6 +2,8 @@
 # Runs the proved program with the words that it is given, and proves and builds it first where that is needed:
 #
 #   ./lookup.sh table UPDATES QUERY..
+#   ./lookup.sh make SEED LINES
+#   ./lookup.sh judge table UPDATES QUERY.. REPORT
 #
 # Files are relative to the caller's directory. Standard output and the status are the program's. What is told of a
 # build goes to standard error; the status is 125, which the program never has, where there is none to run.
@@ -37,8 +39,26 @@ usage() {
 
 # Ends with the usage line for words that surely aren't of the form. On all others the program decides.
 look_at_words() {
-    [ "${1-}" = table ] || usage
-    shift
+    case ${1-} in
+    table)
+        shift
+        look_at_files 2 65 "$@"
+        ;;
+    make) [ $# -eq 3 ] || usage ;;
+    judge)
+        [ "${2-}" = table ] || usage
+        shift 2
+        look_at_files 3 66 "$@"
+        ;;
+    *) usage ;;
+    esac
+}
+
+# The same of the words after a kind: there are from so many files to so many.
+look_at_files() {
+    least=$1
+    most=$2
+    shift 2
     files=0
     options=yes
     while [ $# -gt 0 ]; do
@@ -63,7 +83,7 @@ look_at_words() {
         [ -n "$word" ] || usage
         files=$((files + 1))
     done
-    [ "$files" -ge 2 ] && [ "$files" -le 65 ] || usage
+    [ "$files" -ge "$least" ] && [ "$files" -le "$most" ] || usage
 }
 
 # The crates that the program stands on, and itself, each behind those that it takes.

@@ -10,8 +10,8 @@ use Rattle.clap.specs.Kinds.{Kinds, or_else}
 use Rattle.clap.specs.Faults.{settle_fault, turn_fault, walk_fault, use_fault, flags_fault}
 use Rattle.clap.specs.declared.error.kind.ErrorKind.{ErrorKind}
 use Rattle.clap.specs.declared.error.kind.ErrorKind.TheVariants.{UnknownArgument, InvalidValue}
-use Rattle.ck_command.specs.Words.{Said, Word, file, option, end, other, long_word, command_said, word_of}
-use Rattle.ck_command.proofs.Rows.{nonempty, or_nil, and_false, top, rules, files, option_at, which, arg_is, Tells}
+use Rattle.ck_command.specs.Words.{Said, Word, file, option, end, other, long_word, word_of}
+use Rattle.ck_command.proofs.Rows.{nonempty, or_nil, and_false, top, rules, files, option_at, value_at, which, arg_is, Tells}
 
 -- ---- what a word looks like
 
@@ -78,9 +78,9 @@ at trailing rows pending waiting = record {
 abbrev pub held_fault : List Row → Pending → Kinds
 held_fault rows pending = settle_fault rules false (record { rows = rows; pending = pending; skip = 0 })
 
--- what was said isn't within its limits
+-- an option was said to have a value that begins with `-`
 abbrev pub IsWrong : Said → Type 0
-IsWrong said = command_said said ≡ None
+IsWrong said = (k : Bool) × (word : Text) × (value_at k said ≡ Some word) × IsDashed word
 
 abbrev pub end_of : Walk → List Text → Held
 end_of w words = (fold (walked rules []) w words).held

@@ -1,6 +1,6 @@
 -- That `clap` reads the words after `table` as `read` does.
 use Rattle.std.proofs.Common.{◌≡◌, ℕ, Bool, true, false, cond, ◌==◌, ◌||◌, List, [], ◌∷◌, ◌++◌, ◌⊎◌, inl, inr, ◌<◌, ◌≤◌, ◌^◌, arith, decimal, Option, Some, None, refl, ap, sym, ◌∙◌, subst, codes, append-nil, append_assoc, true≢false, length, drop, leb-true}
-use Rattle.std.specs.Prelude.{MatchOption, option_and_then, nat_le}
+use Rattle.std.specs.Prelude.{MatchOption, is_some, option_and_then, nat_le}
 use Rattle.std.specs.Str.Parse.{IsNumeral, digits_value}
 use Rattle.std.specs.Char.{digit_value}
 use Rattle.std.proofs.lemmas.Fmt.{decimal_is_IsNumeral}
@@ -13,7 +13,7 @@ use Rattle.clap.proofs.FaultLemmas.{leaf_fault}
 use Rattle.clap.specs.declared.error.kind.ErrorKind.{ErrorKind}
 use Rattle.clap.specs.declared.error.kind.ErrorKind.TheVariants.{ArgumentConflict}
 use Rattle.ck_command.specs.Parser.{table_app}
-use Rattle.ck_command.specs.Words.{Said, Word, file, option, end, other, nothing_said, command_with, setting, read, say, with_value, word_of}
+use Rattle.ck_command.specs.Words.{Said, Word, file, option, end, other, nothing_said, command_with, command_said, judgment_said, setting, read, say, with_value, word_of}
 use Rattle.ck_command.proofs.Rows.{same_text, some_none, nonempty, and_false, or_true, top, rules, seed, workers, files, option_at, value_at, put, which, once, with_value_is, Tells, tells_put, tells_file, use_passes, use_again}
 use Rattle.ck_command.proofs.Turns.{IsDashed, Looks, looks, Pending, at, held_fault, IsWrong, end_of, Passes, Answers, Reads, step, stop, IsFree, after_file, trailing_turn, trailing_walk, file_turn, file_walk, end_turn, end_walk, other_turn, unknown_turn, given_turn, given_walk, waits_turn, waits_walk, waiting_at, value_turn, value_walk, no_value, one_value}
 
@@ -87,17 +87,23 @@ dashed_setting least most missing word lt dash = go (bytes_eq (decimal n) word) 
         let fits : n < 2 ^ 64 = omega arith in
         absurd (dashed_numeral word (subst (IsNumeral 10) (same_text (decimal n) word same) (decimal_is_IsNumeral n fits).0) dash)
 
-wrong : (k : Bool) (said : Said) (word : Text) → value_at k said ≡ Some word → IsDashed word → IsWrong said
-wrong k said word is dash = go k is
+-- no run has such a value
+pub wrong_run : (said : Said) → IsWrong said → command_said said ≡ None
+wrong_run said (k, word, is, dash) = go k is
   where
     no_workers : (o : Option ℕ) (names : List Text) → command_with o None names ≡ None
     no_workers None names = refl
     no_workers (Some n) names = refl
 
-    go : (k : Bool) → value_at k said ≡ Some word → IsWrong said
+    go : (k : Bool) → value_at k said ≡ Some word → command_said said ≡ None
     go true is = ap (λ o. command_with o (setting 1 16 4 said.workers) said.files) (ap (setting 0 18446744073709551615 0) is ∙ dashed_setting 0 18446744073709551615 0 word (omega arith) dash)
     go false is = ap (λ o. command_with (setting 0 18446744073709551615 0 said.seed) o said.files) (ap (setting 1 16 4) is ∙ dashed_setting 1 16 4 word (omega arith) dash)
         ∙ no_workers (setting 0 18446744073709551615 0 said.seed) said.files
+
+-- and no judgment has any
+pub wrong_judgment : (said : Said) → IsWrong said → judgment_said said ≡ None
+wrong_judgment said (true, word, is, dash) = rw is refl
+wrong_judgment said (false, word, is, dash) = rw (is, or_true (is_some said.seed)) refl
 
 -- what was said stays said
 abbrev Keeps : Bool → Text → Option Said → Type 0
@@ -166,7 +172,7 @@ refuse (Some said) w words bad is = inr (bad, is)
 
 kept_wrong : (k : Bool) (word : Text) (answer : Option Said) → IsDashed word → Keeps k word answer → MatchOption answer (Unit {0}) IsWrong
 kept_wrong k word None dash kept = tt
-kept_wrong k word (Some said) dash kept = wrong k said word kept dash
+kept_wrong k word (Some said) dash kept = (k, word, kept, dash)
 
 abbrev Free : List Text → Type 0
 Free words = (said : Said) (rows : List Row) (pending : Pending) (z : Waiting) → IsFree z → held_fault rows pending ≡ [] → Tells said (settled_rows rules pending rows)

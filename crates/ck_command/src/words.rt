@@ -1,17 +1,32 @@
-ghost use Rattle.std.specs.Prelude.{◌≡◌, ◌==◌, not, length, ◌≤◌, ◌<◌, ◌^◌, [], drop, map, unwrap_or, option_map, option_and_then, MatchOption, IfOk, None, Some, string_bytes};
+ghost use Rattle.std.specs.Prelude.{◌≡◌, ◌==◌, not, length, ◌≤◌, ◌<◌, ◌^◌, [], drop, map, unwrap_or, option_map, option_and_then, IfOk, None, Some, string_bytes};
 ghost use Rattle.std.specs.List.{list_all};
 ghost use Rattle.clap.specs.Simple.{app_of};
 ghost use Rattle.ck_command.specs.Parser.{table_app};
-ghost use Rattle.ck_command.specs.Words.{are_file_names, command_of, command_said, said_after, setting};
+ghost use Rattle.ck_command.specs.Words.{Judge, are_file_names, command_of, command_said, judgment_after, judgment_with, make_said, number_within, setting};
+ghost use Rattle.ck_command.specs.Asked.{asked_by, command_value, judgment_value, said_by, table_value};
 
 use ck_text::read_decimal;
 use clap::error::ErrorKind;
 use clap::{Arg, ArgAction};
 use std::alloc::{AllocError, Global};
 
+/// How many lines each generated file may have, beside the line `wait`: with it a file has as many as one may have.
+const MOST_LINES: u64 = 999_999;
+
 /// What the words of the command line ask for.
 #[derive(Debug, Drop)]
-pub struct Command<'a> {
+pub enum Command<'a> {
+    /// A run over a table.
+    Table(TableCommand<'a>),
+    /// The summary of the run that a seed generates, with so many updates and queries, at most 999,999.
+    Make { seed: u64, lines: u64 },
+    /// A judgment on a report of a table.
+    Judge(JudgeCommand<'a>),
+}
+
+/// What a run over a table is asked.
+#[derive(Debug, Drop)]
+pub struct TableCommand<'a> {
     /// The seed of the hashes. The map of one thread has none, so it has no effect yet.
     pub seed: u64,
     /// How many threads read, 1 to 16.
@@ -22,46 +37,111 @@ pub struct Command<'a> {
     pub queries: Vec<&'a str>,
 }
 
+/// What a judgment is asked.
+#[derive(Debug, Drop)]
+pub struct JudgeCommand<'a> {
+    /// The name of the update file.
+    pub updates: &'a str,
+    /// The names of the query files, 1 to 64, and then that of the report.
+    pub others: Vec<&'a str>,
+}
+
+// What is asked of the options and the files after a kind.
+#[derive(Clone, Copy)]
+enum Form {
+    // A run: options, and from 2 to 65 files.
+    Run,
+    // A judgment: no option, and from 3 to 66 files.
+    Judgment,
+}
+
 /// The command that the words after the program's name ask for, or `None` exactly where they are not of the form. `Err`
 /// is want of memory.
 pub fn read_words<'a>(alloc: Global, words: &'a [String]) -> Result<Option<Command<'a>>, AllocError>
-    ensures { IfOk result (λ answer. MatchOption answer
-        (command_of (map string_bytes words.now) ≡ None)
-        (λ c. command_of (map string_bytes words.now)
-        ≡ Some (record { seed = c.seed; workers = c.workers; updates = c.updates.now; queries = map (λ name. name.now) c.queries.items }))) }
+    ensures { IfOk result (λ answer. command_of (map string_bytes words.now) ≡ option_map command_value answer) }
 {
     match words {
-        [kind, ..] if kind.as_str() == "table" => read_table(alloc, words),
+        [kind, ..] if kind.as_str() == "table" => read_files(alloc, words, Form::Run),
+        [kind, numbers @ ..] if kind.as_str() == "make" => Ok(read_make(numbers)),
+        [kind, judged @ ..] if kind.as_str() == "judge" => read_judgment(alloc, judged),
         _ => Ok(None),
     }
 }
 
-// The command that was said: its numbers and names are within their limits.
-fn command_said<'a>(
+// The judgment that the words after `judge` ask for. The word `names` will be a kind too.
+fn read_judgment<'a>(alloc: Global, words: &'a [String]) -> Result<Option<Command<'a>>, AllocError>
+    ensures { IfOk result (λ answer. option_map Judge (judgment_after (map string_bytes words.now)) ≡ option_map command_value answer) }
+{
+    match words {
+        [kind, ..] if kind.as_str() == "table" => read_files(alloc, words, Form::Judgment),
+        _ => Ok(None),
+    }
+}
+
+// The summary that the words after `make` ask for: they are two numbers.
+fn read_make<'a>(words: &[String]) -> Option<Command<'a>>
+    ensures { make_said (map string_bytes words.now) ≡ option_map command_value result }
+{
+    match words {
+        [seed, lines] => {
+            let seed = number_within(0, u64::MAX, seed.as_str());
+            let lines = number_within(0, MOST_LINES, lines.as_str());
+            match (seed, lines) {
+                (Some(seed), Some(lines)) => Some(Command::Make { seed, lines }),
+                _ => None,
+            }
+        }
+        _ => None,
+    }
+}
+
+// What was said asks for, where it is of this form.
+fn said_by<'a>(
     alloc: Global,
+    form: Form,
     seed: Option<&str>,
     workers: Option<&str>,
     files: &[&'a str],
 ) -> Result<Option<Command<'a>>, AllocError>
-    ensures { IfOk result (λ answer. MatchOption answer
-        (command_said (record {
-          seed = option_map (λ word. word.now) seed.entry;
-          workers = option_map (λ word. word.now) workers.entry;
-          files = map (λ name. name.now) files.now;
-        }) ≡ None)
-        (λ c. command_said (record {
-          seed = option_map (λ word. word.now) seed.entry;
-          workers = option_map (λ word. word.now) workers.entry;
-          files = map (λ name. name.now) files.now;
-        }) ≡ Some (record { seed = c.seed; workers = c.workers; updates = c.updates.now; queries = map (λ name. name.now) c.queries.items }))) }
+    ensures { IfOk result (λ answer. said_by form (record {
+      seed = option_map (λ word. word.now) seed.entry;
+      workers = option_map (λ word. word.now) workers.entry;
+      files = map (λ name. name.now) files.now;
+    }) ≡ option_map command_value answer) }
 {
-    if !are_file_names(files) {
+    match form {
+        Form::Run => match run_said(alloc, seed, workers, files)? {
+            Some(command) => Ok(Some(Command::Table(command))),
+            None => Ok(None),
+        },
+        Form::Judgment if seed.is_some() || workers.is_some() => Ok(None),
+        Form::Judgment => match judgment_with(alloc, files)? {
+            Some(command) => Ok(Some(Command::Judge(command))),
+            None => Ok(None),
+        },
+    }
+}
+
+// The run that was said: its numbers and names are within their limits.
+fn run_said<'a>(
+    alloc: Global,
+    seed: Option<&str>,
+    workers: Option<&str>,
+    files: &[&'a str],
+) -> Result<Option<TableCommand<'a>>, AllocError>
+    ensures { IfOk result (λ answer. command_said (record {
+      seed = option_map (λ word. word.now) seed.entry;
+      workers = option_map (λ word. word.now) workers.entry;
+      files = map (λ name. name.now) files.now;
+    }) ≡ option_map table_value answer) }
+{
+    if !are_file_names(2, 65, files) {
         return Ok(None);
     }
     let seed = setting(0, u64::MAX, 0, seed);
     let workers = setting(1, 16, 4, workers);
     match (seed, workers, files) {
-        (Some(seed), Some(workers), [updates, queries @ ..]) => Ok(Some(Command {
+        (Some(seed), Some(workers), [updates, queries @ ..]) => Ok(Some(TableCommand {
             seed,
             workers,
             updates: *updates,
@@ -71,11 +151,27 @@ fn command_said<'a>(
     }
 }
 
-// Whether there are 2 to 65 files, and no name is empty.
-fn are_file_names(files: &[&str]) -> bool
-    ensures { result ≡ are_file_names (map (λ name. name.now) files.now) }
+// The judgment of these files.
+fn judgment_with<'a>(
+    alloc: Global,
+    files: &[&'a str],
+) -> Result<Option<JudgeCommand<'a>>, AllocError>
+    ensures { IfOk result (λ answer. judgment_with (map (λ name. name.now) files.now) ≡ option_map judgment_value answer) }
 {
-    files.len() >= 2 && files.len() <= 65 && none_is_empty(files)
+    match files {
+        [updates, others @ ..] if are_file_names(3, 66, files) => Ok(Some(JudgeCommand {
+            updates: *updates,
+            others: Vec::from_slice(alloc, others)?,
+        })),
+        _ => Ok(None),
+    }
+}
+
+// Whether there are so many files, and no name is empty.
+fn are_file_names(least: usize, most: usize, files: &[&str]) -> bool
+    ensures { result ≡ are_file_names least most (map (λ name. name.now) files.now) }
+{
+    files.len() >= least && files.len() <= most && none_is_empty(files)
 }
 
 // Whether no name is empty.
@@ -96,29 +192,38 @@ fn setting(least: u64, most: u64, missing: u64, word: Option<&str>) -> Option<u6
 {
     match word {
         None => Some(missing),
-        Some(word) => match read_decimal(word.as_bytes(), most as u128) {
-            None => None,
-            Some(n) => {
-                if n >= least as u128 {
-                    Some(n as u64)
-                } else {
-                    None
-                }
-            }
-        },
+        Some(word) => number_within(least, most, word),
     }
 }
 
-// The words, whose first is `table`, read by `clap`.
-fn read_table<'a>(alloc: Global, words: &'a [String]) -> Result<Option<Command<'a>>, AllocError>
-    ensures { IfOk result (λ answer. MatchOption answer
-        (said_after (drop 1 (map string_bytes words.now)) ≡ None)
-        (λ c. said_after (drop 1 (map string_bytes words.now))
-        ≡ Some (record { seed = c.seed; workers = c.workers; updates = c.updates.now; queries = map (λ name. name.now) c.queries.items }))) }
+// The word's number, where it is within these limits.
+fn number_within(least: u64, most: u64, word: &str) -> Option<u64>
+    ensures { result ≡ number_within least most word.now }
+{
+    match read_decimal(word.as_bytes(), most as u128) {
+        None => None,
+        Some(n) => {
+            if n >= least as u128 {
+                Some(n as u64)
+            } else {
+                None
+            }
+        }
+    }
+}
+
+// The words, whose first is the kind `table`, read by `clap`.
+fn read_files<'a>(
+    alloc: Global,
+    words: &'a [String],
+    form: Form,
+) -> Result<Option<Command<'a>>, AllocError>
+    ensures { IfOk result (λ answer. asked_by form (drop 1 (map string_bytes words.now)) ≡ option_map command_value answer) }
 {
     match table_parser(alloc)?.try_get_matches_from(words) {
-        Ok(matches) => command_said(
+        Ok(matches) => said_by(
             alloc,
+            form,
             matches.get_str("seed"),
             matches.get_str("workers"),
             matches.get_strs("file").unwrap_or(&[]),

@@ -1,10 +1,13 @@
 -- The update file and the query file that a seed generates. The i-th line of each, counted from 1, is drawn from a hash of i.
-use Rattle.std.specs.Prelude.{ℕ, ◌+◌, ◌/◌, ◌%◌, ◌^◌, nat_lt, if◌then◌else◌, bit_xor, List, ◌++◌, map, flat_map, decimal}
+use Rattle.std.specs.Prelude.{ℕ, ◌+◌, ◌/◌, ◌%◌, ◌^◌, nat_lt, if◌then◌else◌, bit_xor, List, [], ◌∷◌, ◌++◌, map, flat_map, decimal}
 use Rattle.std.specs.List.{range_with_len}
 use Rattle.ck_history.specs.declared.update.Update.{Update}
 use Rattle.ck_history.specs.declared.update.Update.TheVariants.{Set, Put, Del}
 use Rattle.ck_probe.specs.Mixing.{mix_of}
+use Rattle.ck_script.specs.declared.line.Numbered.{Numbered}
+use Rattle.ck_script.specs.declared.line.UpLine.{UpLine}
 use Rattle.ck_script.specs.declared.line.UpLine.TheVariants.{Call}
+use Rattle.ck_script.specs.declared.line.AskLine.{AskLine}
 use Rattle.ck_script.specs.declared.line.AskLine.TheVariants.{Ask, Wait}
 use Rattle.ck_script.specs.Grammar.{update_words, query_words}
 use Rattle.ck_text.specs.Words.{line}
@@ -45,3 +48,15 @@ update_text seed lines = flat_map update_line (generated_updates seed lines)
 -- `wait LINES`, so that all updates come before all queries, and `get KEY` for each key
 abbrev pub query_text : ℕ → ℕ → List ℕ
 query_text seed lines = line (query_words {K = ℕ} decimal (Wait lines)) ++ flat_map query_line (generated_keys seed lines)
+
+-- the lines of the update file and of the query file, as they are read
+abbrev pub lines_of_updates : ℕ → ℕ → List (UpLine (Update ℕ))
+lines_of_updates seed lines = map (λ update. Call update) (generated_updates seed lines)
+
+abbrev pub lines_of_queries : ℕ → ℕ → List (AskLine ℕ)
+lines_of_queries seed lines = Wait lines ∷ map (λ key. Ask key) (generated_keys seed lines)
+
+-- lines with their numbers, from n on
+abbrev pub numbered : {L : Type 0} → ℕ → List L → List (Numbered L)
+numbered n [] = []
+numbered n (what ∷ more) = record { line = n; what = what } ∷ numbered (n + 1) more

@@ -1,6 +1,8 @@
 -- What a run of the generated files is summed up as.
-use Rattle.std.specs.Prelude.{ℕ, ◌-◌, ◌/◌, ◌%◌, ◌^◌, List, [], ◌∷◌, length, Option, Some, None, Bool, true, false, flat_map, codes, decimal}
+use Rattle.std.specs.Prelude.{ℕ, ◌-◌, ◌/◌, ◌%◌, ◌^◌, List, [], ◌∷◌, length, map, Option, Some, None, Bool, true, false, flat_map, codes, decimal}
 use Rattle.std.specs.List.{filter}
+use Rattle.std.specs.Ordering.{nat_cmp}
+use Rattle.ck_history.specs.Map.{after, answer_after, replies}
 use Rattle.ck_history.specs.declared.update.Reply.{Reply}
 use Rattle.ck_history.specs.declared.update.Reply.TheVariants.{Fresh, Was, Has, Missing}
 use Rattle.ck_probe.specs.Mixing.{mix_of, key_code_of}
@@ -8,6 +10,7 @@ use Rattle.ck_text.specs.Words.{line}
 use Rattle.ck_gen.specs.declared.summary.ReplyKind.{ReplyKind}
 use Rattle.ck_gen.specs.declared.summary.ReplyKind.TheVariants as kinds
 use Rattle.ck_gen.specs.declared.summary.Summary.{Summary}
+use Rattle.ck_gen.specs.Generated.{generated_updates, generated_keys}
 
 -- The reply is of this kind: a pair was added, a value was replaced or taken out, a `put` found its key, or a `del` found none
 abbrev pub is_of_kind : ReplyKind → Reply → Bool
@@ -56,3 +59,13 @@ summary_words s =
 
 abbrev pub summary_lines : Summary → List ℕ
 summary_lines s = flat_map line (summary_words s)
+
+-- The text of the summary of a seed's run: the replies and the pairs are those of the map of one thread, of at most `most`
+-- pairs, and each query is answered by that map after all updates
+abbrev pub generated_summary : ℕ → ℕ → ℕ → List ℕ
+generated_summary most seed lines =
+    let us = generated_updates seed lines in
+    summary_lines (summary_of
+    (replies nat_cmp most us)
+    (map (answer_after nat_cmp most us (length us)) (generated_keys seed lines))
+    (after nat_cmp most us (length us)))

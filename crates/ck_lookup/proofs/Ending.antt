@@ -19,17 +19,24 @@ use Rattle.ck_script.specs.Script.{QueriesSay, said_of, script_of}
 use Rattle.ck_script.proofs.Meaning.{one_update_file, one_query_file}
 use Rattle.ck_script.proofs.Saying.{no_first_fault}
 use Rattle.ck_lookup.specs.declared.outcome.Outcome.{Outcome}
-use Rattle.ck_lookup.specs.declared.outcome.Outcome.TheVariants.{Done, Usage, ReadFault, BadScript, TooLarge, WriteFault, NoMemory}
+use Rattle.ck_lookup.specs.declared.outcome.Outcome.TheVariants.{Done, Usage, ReadFault, BadScript, TooLarge, WriteFault, BadReport, Illegal, NoMemory}
 use Rattle.ck_lookup.specs.Headline.{IsReportOf}
 use Rattle.ck_lookup.specs.Limits.{AreWithin, line_count}
-use Rattle.ck_command.specs.Words.{Command, names}
-use Rattle.ck_lookup.specs.Causes.{Tells, AreRead, AreSaid, AreAccepted, IsBadScript, IsLawful, IsFaultOf, HasReport, Outside, MayEndWith, IsClear, IsDoneOrNoMemory}
-use Rattle.ck_lookup.specs.Running.{AreRunnable, IsRefusedScript, IsRefusedRun, MayBegin, IsTextOf, HasPut}
+use Rattle.ck_command.specs.Words.{TableCommand, Command, Table, Make, names}
+use Rattle.ck_lookup.specs.Causes.{Tells, AreRead, AreSaid, AreAccepted, IsBadScript, IsLawful, IsFaultOf, IsTooLarge, HasReport, Outside, MayEndWith, IsClear, IsDoneOrNoMemory}
+use Rattle.ck_lookup.specs.Making.{made_text, PutsText}
+use Rattle.ck_lookup.specs.Running.{AreRunnable, IsRefusedScript, IsRefusedFetch, IsRefusedRun, MayBegin, IsTextOf, HasPut}
 use Rattle.ck_lookup.proofs.Reporting.{report_is, begins}
 use Rattle.ck_lookup.proofs.Told.{read_told}
 
+abbrev Ups : Type 0
+Ups = List (Numbered (UpLine (Update ℕ)))
+
+abbrev Asks : Type 0
+Asks = List (List (Numbered (AskLine ℕ)))
+
 -- as many files were read as there are names
-read_long : {N : Type 0} (told : N → Option (List ℕ)) (names : List N) (files : List (List ℕ)) → AreRead told names files → length files ≡ length names
+pub read_long : {N : Type 0} (told : N → Option (List ℕ)) (names : List N) (files : List (List ℕ)) → AreRead told names files → length files ≡ length names
 read_long told [] [] read = refl
 read_long told [] (f ∷ files) read = absurd read
 read_long told (n ∷ names) [] read = absurd read
@@ -44,6 +51,18 @@ module _ (held : List ℕ → Option (List ℕ)) (names : List (List ℕ)) where
       let tail : rs ≡ qs = cc in
       (head, tail)
 
+  -- files that weren't all fetched
+  pub refused_fetch : (before after : List ℕ → ℕ) (o : Outcome) → IsRefusedFetch held names before after o → IsRefusedRun held names before after o
+  refused_fetch before after (ReadFault file) refused = refused
+  refused_fetch before after (TooLarge file) refused = refused
+  refused_fetch before after NoMemory refused = refused
+  refused_fetch before after Done refused = absurd refused
+  refused_fetch before after Usage refused = absurd refused
+  refused_fetch before after (BadScript file line why) refused = absurd refused
+  refused_fetch before after WriteFault refused = absurd refused
+  refused_fetch before after (BadReport line) refused = absurd refused
+  refused_fetch before after Illegal refused = absurd refused
+
   -- a refused script
   pub refused_script : (files : List (List ℕ)) (before after : List ℕ → ℕ) (o : Outcome) (u : List ℕ) (qs : List (List ℕ)) → files ≡ u ∷ qs → AreRead held names files → AreWithin files → after ≡ before → IsRefusedScript u qs o → IsRefusedRun held names before after o
   refused_script files before after (BadScript file line why) u qs is read within fetched refused = (
@@ -56,6 +75,8 @@ module _ (held : List ℕ → Option (List ℕ)) (names : List (List ℕ)) where
   refused_script files before after (ReadFault file) u qs is read within fetched refused = absurd refused
   refused_script files before after (TooLarge file) u qs is read within fetched refused = absurd refused
   refused_script files before after WriteFault u qs is read within fetched refused = absurd refused
+  refused_script files before after (BadReport line) u qs is read within fetched refused = absurd refused
+  refused_script files before after Illegal u qs is read within fetched refused = absurd refused
 
   -- scripts that were read
   pub runnable : (files : List (List ℕ)) (u : List ℕ) (qs : List (List ℕ)) (ups : List (Numbered (UpLine (Update ℕ)))) (asks : List (List (Numbered (AskLine ℕ)))) → files ≡ u ∷ qs → AreRead held names files → AreWithin files → AreSaid u qs ups asks → AreRunnable held names ups asks
@@ -149,40 +170,47 @@ lawful_query (f ∷ files) [] i bytes says named = absurd says
 lawful_query (f ∷ files) (a ∷ asks) zero bytes says named = let same : f ≡ bytes = cc in (a, subst (λ b. FileSays (IsQueryLine IsKey) (query_words decimal) b a) same says.0)
 lawful_query (f ∷ files) (a ∷ asks) (suc i) bytes says named = lawful_query files asks i bytes says.1 named
 
-lawful_file : (u : List ℕ) (qs : List (List ℕ)) → AreAccepted u qs → (i : ℕ) (bytes : List ℕ) → slice_get (u ∷ qs) i ≡ Some bytes → IsLawful i bytes
-lawful_file u qs accepted zero bytes named = let same : u ≡ bytes = cc in (accepted.ups, subst (λ b. FileSays (IsUpdateLine IsKey) (update_words decimal) b accepted.ups) same accepted.said.updates_said)
-lawful_file u qs accepted (suc i) bytes named = lawful_query qs accepted.asks i bytes accepted.said.queries_said named
+lawful_file : (u : List ℕ) (qs : List (List ℕ)) (ups : Ups) (asks : Asks) → AreSaid u qs ups asks → (i : ℕ) (bytes : List ℕ) → slice_get (u ∷ qs) i ≡ Some bytes → IsLawful i bytes
+lawful_file u qs ups asks said zero bytes named = let same : u ≡ bytes = cc in (ups, subst (λ b. FileSays (IsUpdateLine IsKey) (update_words decimal) b ups) same said.updates_said)
+lawful_file u qs ups asks said (suc i) bytes named = lawful_query qs asks i bytes said.queries_said named
+
+-- scripts say one thing
+pub one_script : (u : List ℕ) (qs : List (List ℕ)) (ups vs : Ups) (asks bs : Asks) → FileSays (IsUpdateLine IsKey) (update_words decimal) u ups → FileSays (IsUpdateLine IsKey) (update_words decimal) u vs → QueriesSay IsKey decimal qs asks → QueriesSay IsKey decimal qs bs → (ups ≡ vs) × (asks ≡ bs)
+one_script u qs ups vs asks bs ups_said vs_said asks_said bs_said = (one_update_file IsKey decimal one_table_key u ups vs ups_said vs_said, one_queries qs asks bs asks_said bs_said)
 
 -- files of which nothing is refused have no first fault
-no_bad_script : (u : List ℕ) (qs : List (List ℕ)) (file : ℕ) (fault : ScriptFault) → AreAccepted u qs → IsBadScript u qs file fault → ⊥
-no_bad_script u qs file fault accepted (inl bad) = no_fault file bad.bytes fault (lawful_file u qs accepted file bad.bytes bad.here) bad.first
-no_bad_script u qs file fault accepted (inr beyond) =
-    let ups_same : accepted.ups ≡ beyond.ups = one_update_file IsKey decimal one_table_key u accepted.ups beyond.ups accepted.said.updates_said beyond.updates_said in
-    let asks_same : accepted.asks ≡ beyond.asks = one_queries qs accepted.asks beyond.asks accepted.said.queries_said beyond.queries_said in
-    let none : range_fault beyond.ups beyond.asks ≡ None = subst (λ a. range_fault beyond.ups a ≡ None) asks_same (subst (λ l. range_fault l accepted.asks ≡ None) ups_same accepted.said.in_range) in
+pub no_bad_script : (u : List ℕ) (qs : List (List ℕ)) (ups : Ups) (asks : Asks) (file : ℕ) (fault : ScriptFault) → AreSaid u qs ups asks → IsBadScript u qs file fault → ⊥
+no_bad_script u qs ups asks file fault said (inl bad) = no_fault file bad.bytes fault (lawful_file u qs ups asks said file bad.bytes bad.here) bad.first
+no_bad_script u qs ups asks file fault said (inr beyond) =
+    let same = one_script u qs ups beyond.ups asks beyond.asks said.updates_said beyond.updates_said said.queries_said beyond.queries_said in
+    let none : range_fault beyond.ups beyond.asks ≡ None = subst (λ a. range_fault beyond.ups a ≡ None) same.1 (subst (λ l. range_fault l asks ≡ None) same.0 said.in_range) in
     let some = beyond.first in
     absurd (cc)
+
+-- files within the limits have none that is past them
+pub none_too_large : (held : List ℕ → Option (List ℕ)) (ns files : List (List ℕ)) (file : ℕ) → map held ns ≡ map Some files → AreWithin files → IsTooLarge held ns file → ⊥
+none_too_large held ns files file told within large =
+    let same : take (file + 1) files ≡ large.earlier ++ large.bytes ∷ [] = read_told held (take (file + 1) ns) (large.earlier ++ large.bytes ∷ []) (take (file + 1) files) large.read (tells_first held ns files (file + 1) told) in
+    large.past (subst AreWithin same (first_of_within files (file + 1) within))
 
 -- where nothing stands against a whole report, the run is done or finds no memory
 complete : (o : Outside) (ns : List (List ℕ)) (outcome : Outcome) (u : List ℕ) (qs : List (List ℕ)) → MayEndWith o ns outcome → IsClear o ns u qs → IsDoneOrNoMemory outcome
 complete o ns Done u qs ends clear = inl refl
 complete o ns Usage u qs ends clear = absurd ends
 complete o ns (ReadFault file) u qs ends clear = absurd (clear.read ends.0.name ends.0.rose)
-complete o ns (TooLarge file) u qs ends clear =
-    let large = ends.1 in
-    let tells = tells_first o.held ns (u ∷ qs) (file + 1) clear.told in
-    let same : take (file + 1) (u ∷ qs) ≡ large.earlier ++ large.bytes ∷ [] = read_told o.held (take (file + 1) ns) (large.earlier ++ large.bytes ∷ []) (take (file + 1) (u ∷ qs)) large.read tells in
-    absurd (large.past (subst AreWithin same (first_of_within (u ∷ qs) (file + 1) clear.accepted.within)))
+complete o ns (TooLarge file) u qs ends clear = absurd (none_too_large o.held ns (u ∷ qs) file clear.told clear.accepted.within ends.1)
 complete o ns (BadScript file line why) u qs ends clear =
     let bad = ends.1 in
     let same = told_files o.held ns u qs bad.update_file bad.query_files bad.read clear.told in
     let first = subst (λ q. IsBadScript u q file (record { line = line; why = why })) same.1 (subst (λ v. IsBadScript v bad.query_files file (record { line = line; why = why })) same.0 bad.first) in
-    absurd (no_bad_script u qs file (record { line = line; why = why }) clear.accepted first)
+    absurd (no_bad_script u qs clear.accepted.ups clear.accepted.asks file (record { line = line; why = why }) clear.accepted.said first)
 complete o ns WriteFault u qs ends clear = absurd (clear.written ends.1)
+complete o ns (BadReport line) u qs ends clear = absurd ends
+complete o ns Illegal u qs ends clear = absurd ends
 complete o ns NoMemory u qs ends clear = inr refl
 
 -- the same, of a command that the words give
-pub complete_asked : (o : Outside) (words : Option Command) (c asked : Command) (outcome : Outcome) (u : List ℕ) (qs : List (List ℕ)) → words ≡ Some c → words ≡ Some asked → MayEndWith o (names c) outcome → IsClear o (names asked) u qs → IsDoneOrNoMemory outcome
+pub complete_asked : (o : Outside) (words : Option Command) (c asked : TableCommand) (outcome : Outcome) (u : List ℕ) (qs : List (List ℕ)) → words ≡ Some (Table c) → words ≡ Some (Table asked) → MayEndWith o (names c) outcome → IsClear o (names asked) u qs → IsDoneOrNoMemory outcome
 complete_asked o words c asked outcome u qs is also ends clear =
     let same : c ≡ asked = cc in
     complete o (names asked) outcome u qs (subst (λ k. MayEndWith o (names k) outcome) same ends) clear
@@ -197,11 +225,19 @@ report_told o ns outcome u qs ends tells done =
     (told.0, (put.0, told.1, put.2))
 
 -- the same, of a command that the words give
-pub report_asked : (o : Outside) (words : Option Command) (c asked : Command) (outcome : Outcome) (u : List ℕ) (qs : List (List ℕ)) → words ≡ Some c → words ≡ Some asked → MayEndWith o (names c) outcome → Tells o.held (names asked) u qs → outcome ≡ Done
+pub report_asked : (o : Outside) (words : Option Command) (c asked : TableCommand) (outcome : Outcome) (u : List ℕ) (qs : List (List ℕ)) → words ≡ Some (Table c) → words ≡ Some (Table asked) → MayEndWith o (names c) outcome → Tells o.held (names asked) u qs → outcome ≡ Done
     → AreAccepted u qs × ((text : List ℕ) × IsReportOf u qs text × (o.taken_after ≡ appended o.taken_before text))
 report_asked o words c asked outcome u qs is also ends tells done =
     let same : c ≡ asked = cc in
     report_told o (names asked) outcome u qs (subst (λ k. MayEndWith o (names k) outcome) same ends) tells done
+
+-- the run of a seed, of a command that the words give
+pub made_asked : (words : Option Command) (seed lines asked_seed asked_lines : ℕ) (before after : Option (List ℕ)) (faults_before faults_after : ℕ) (outcome : Outcome) → words ≡ Some (Make seed lines) → words ≡ Some (Make asked_seed asked_lines)
+    → PutsText (made_text seed lines) before after faults_before faults_after outcome → PutsText (made_text asked_seed asked_lines) before after faults_before faults_after outcome
+made_asked words seed lines asked_seed asked_lines before after faults_before faults_after outcome is also puts =
+    let same_seed : seed ≡ asked_seed = cc in
+    let same_lines : lines ≡ asked_lines = cc in
+    subst (λ n. PutsText (made_text asked_seed n) before after faults_before faults_after outcome) same_lines (subst (λ s. PutsText (made_text s lines) before after faults_before faults_after outcome) same_seed puts)
 
 -- what an answer says, as something else
 pub ok_more : {T E : Type 0} {P Q : T → Type 0} (r : Result T E) → ((x : T) → P x → Q x) → IfOk r P → IfOk r Q

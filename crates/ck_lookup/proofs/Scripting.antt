@@ -14,7 +14,7 @@ use Rattle.ck_script.specs.Fronts.{is_wait, any_wait}
 use Rattle.ck_script.specs.Script.{QueriesSay}
 use Rattle.ck_script.proofs.Circles.{or_false}
 use Rattle.ck_lookup.specs.declared.outcome.Outcome.{Outcome}
-use Rattle.ck_lookup.specs.declared.outcome.Outcome.TheVariants.{Done, Usage, ReadFault, BadScript, TooLarge, WriteFault, NoMemory}
+use Rattle.ck_lookup.specs.declared.outcome.Outcome.TheVariants.{Done, Usage, ReadFault, BadScript, TooLarge, WriteFault, BadReport, Illegal, NoMemory}
 use Rattle.ck_lookup.specs.Causes.{IsLawful}
 use Rattle.ck_lookup.specs.Running.{IsRefusedUpdates, IsRefusedQueries, IsRefusedQueryFile, IsRefusedScript}
 
@@ -75,6 +75,8 @@ refused_queries files asks i number bytes Usage count here all refused = absurd 
 refused_queries files asks i number bytes (ReadFault file) count here all refused = absurd refused
 refused_queries files asks i number bytes (TooLarge file) count here all refused = absurd refused
 refused_queries files asks i number bytes WriteFault count here all refused = absurd refused
+refused_queries files asks i number bytes (BadReport line) count here all refused = absurd refused
+refused_queries files asks i number bytes Illegal count here all refused = absurd refused
 
 -- the update file was refused
 pub script_without_updates : (u : List ℕ) (qs : List (List ℕ)) (o : Outcome) → IsRefusedUpdates u o → IsRefusedScript u qs o
@@ -90,6 +92,8 @@ script_without_updates u qs Usage refused = refused
 script_without_updates u qs (ReadFault file) refused = refused
 script_without_updates u qs (TooLarge file) refused = refused
 script_without_updates u qs WriteFault refused = refused
+script_without_updates u qs (BadReport line) refused = refused
+script_without_updates u qs Illegal refused = refused
 
 -- a query file was refused, after the update file had been read
 pub script_without_queries : (u : List ℕ) (qs : List (List ℕ)) (ups : List (Numbered (UpLine (Update ℕ)))) (o : Outcome) → FileSays (IsUpdateLine IsKey) (update_words decimal) u ups → IsRefusedQueries qs o → IsRefusedScript u qs o
@@ -109,6 +113,8 @@ script_without_queries u qs ups Usage says refused = refused
 script_without_queries u qs ups (ReadFault file) says refused = refused
 script_without_queries u qs ups (TooLarge file) says refused = refused
 script_without_queries u qs ups WriteFault says refused = refused
+script_without_queries u qs ups (BadReport line) says refused = refused
+script_without_queries u qs ups Illegal says refused = refused
 
 -- a `wait` in one more file
 pub any_wait_push : {A : Type 0} (files : List (List (Numbered (AskLine A)))) (said : List (Numbered (AskLine A))) (a b : Bool) → a ≡ any_wait files → b ≡ list_any (λ l. is_wait l.what) said → (a || b) ≡ any_wait (files ++ said ∷ [])

@@ -6,11 +6,11 @@ use Rattle.std.proofs.lemmas.Option.{slice_get_within, get_or_from_slice_get}
 use Rattle.std.proofs.Math.Seq.{take-suc}
 use Rattle.ck_io.specs.Faults.{Rose}
 use Rattle.ck_lookup.specs.declared.outcome.Outcome.{Outcome}
-use Rattle.ck_lookup.specs.declared.outcome.Outcome.TheVariants.{Done, Usage, ReadFault, BadScript, TooLarge, WriteFault, NoMemory}
+use Rattle.ck_lookup.specs.declared.outcome.Outcome.TheVariants.{Done, Usage, ReadFault, BadScript, TooLarge, WriteFault, BadReport, Illegal, NoMemory}
 use Rattle.ck_lookup.specs.Limits.{AreWithin, most_bytes}
 use Rattle.ck_lookup.specs.Causes.{AreRead, AreFirstWithin, IsTooLarge}
 use Rattle.ck_lookup.specs.Fetching.{IsPast, IsRefusedNext}
-use Rattle.ck_lookup.specs.Running.{IsRefusedRun}
+use Rattle.ck_lookup.specs.Running.{IsRefusedFetch}
 use Rattle.ck_lookup.proofs.Within.{too_long_past}
 
 -- bytes that were read are the bytes that are told
@@ -70,7 +70,7 @@ module _ (held : List ℕ → Option (List ℕ)) (names : List (List ℕ)) where
       }
 
   -- the next file was refused
-  pub refused_next : (before now after : List ℕ → ℕ) (n : ℕ) (name : List ℕ) (files : List (List ℕ)) (o : Outcome) → slice_get names n ≡ Some name → AreRead held (take n names) files → AreWithin files → now ≡ before → IsRefusedNext n name (held name) files now after o → IsRefusedRun held names before after o
+  pub refused_next : (before now after : List ℕ → ℕ) (n : ℕ) (name : List ℕ) (files : List (List ℕ)) (o : Outcome) → slice_get names n ≡ Some name → AreRead held (take n names) files → AreWithin files → now ≡ before → IsRefusedNext n name (held name) files now after o → IsRefusedFetch held names before after o
   refused_next before now after n name files (ReadFault f) named read within fetched refused = record {
     name = name;
     named = rw refused.0 named;
@@ -83,6 +83,8 @@ module _ (held : List ℕ → Option (List ℕ)) (names : List (List ℕ)) where
   refused_next before now after n name files Usage named read within fetched refused = absurd refused
   refused_next before now after n name files (BadScript f line why) named read within fetched refused = absurd refused
   refused_next before now after n name files WriteFault named read within fetched refused = absurd refused
+  refused_next before now after n name files (BadReport line) named read within fetched refused = absurd refused
+  refused_next before now after n name files Illegal named read within fetched refused = absurd refused
 
 -- names of query files, as they are kept
 module _ {N : Type 0} (name_of : N → List ℕ) where
@@ -104,7 +106,7 @@ module _ {N : Type 0} (name_of : N → List ℕ) where
       rw (added, add-one, names_more queries i d lt) (read_push held (updates ∷ map name_of (take i queries)) (name_of (get_or queries i d)) files file read here)
 
   -- the next query file was refused
-  pub refused_query : (held : List ℕ → Option (List ℕ)) (updates : List ℕ) (queries : List N) (before now after : List ℕ → ℕ) (i number : ℕ) (d : N) (files : List (List ℕ)) (o : Outcome) → i < length queries → number ≡ i + 1 → AreRead held (updates ∷ map name_of (take i queries)) files → AreWithin files → now ≡ before → IsRefusedNext number (name_of (get_or queries i d)) (held (name_of (get_or queries i d))) files now after o → IsRefusedRun held (updates ∷ map name_of queries) before after o
+  pub refused_query : (held : List ℕ → Option (List ℕ)) (updates : List ℕ) (queries : List N) (before now after : List ℕ → ℕ) (i number : ℕ) (d : N) (files : List (List ℕ)) (o : Outcome) → i < length queries → number ≡ i + 1 → AreRead held (updates ∷ map name_of (take i queries)) files → AreWithin files → now ≡ before → IsRefusedNext number (name_of (get_or queries i d)) (held (name_of (get_or queries i d))) files now after o → IsRefusedFetch held (updates ∷ map name_of queries) before after o
   refused_query held updates queries before now after i number d files o lt count read within fetched refused =
       let name = name_of (get_or queries i d) in
       let read_first : AreRead held (updates ∷ take i (map name_of queries)) files = rw (take-map name_of i queries) read in

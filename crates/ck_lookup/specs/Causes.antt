@@ -14,7 +14,7 @@ use Rattle.ck_script.specs.Script.{QueriesSay}
 use Rattle.ck_script.specs.Grammar.{FileSays, IsFirstFault, HasFault, IsUpdateLine, update_words, update_verbs, IsQueryLine, query_words, query_verbs}
 use Rattle.ck_script.specs.Keys.{IsTableKeyFault}
 use Rattle.ck_lookup.specs.declared.outcome.Outcome.{Outcome}
-use Rattle.ck_lookup.specs.declared.outcome.Outcome.TheVariants.{Done, Usage, ReadFault, BadScript, TooLarge, WriteFault, NoMemory}
+use Rattle.ck_lookup.specs.declared.outcome.Outcome.TheVariants.{Done, Usage, ReadFault, BadScript, TooLarge, WriteFault, BadReport, Illegal, NoMemory}
 use Rattle.ck_lookup.specs.Limits.{AreWithin}
 use Rattle.ck_lookup.specs.Headline.{IsReportOf}
 
@@ -123,6 +123,18 @@ pub record Outside : Type 0 where
   pub sink_before : ℕ
   pub sink_after : ℕ
 
+-- the same in one line, as clauses say it
+abbrev pub outside : (List ℕ → Option (List ℕ)) → (List ℕ → ℕ) → (List ℕ → ℕ) → Option (List ℕ) → Option (List ℕ) → ℕ → ℕ → Outside
+outside held shelf_before shelf_after taken_before taken_after sink_before sink_after = record {
+  held = held;
+  shelf_before = shelf_before;
+  shelf_after = shelf_after;
+  taken_before = taken_before;
+  taken_after = taken_after;
+  sink_before = sink_before;
+  sink_after = sink_after;
+}
+
 module _ (o : Outside) (names : List (List ℕ)) where
   -- no fetch failed: no count of the shelf's faults rose
   abbrev pub FetchedAll : Type 0
@@ -148,6 +160,8 @@ module _ (o : Outside) (names : List (List ℕ)) where
   MayEndWith (TooLarge file) = FetchedAll × IsTooLarge o.held names file × PutNothing
   MayEndWith (BadScript file line why) = FetchedAll × HasBadScript o.held names file (record { line = line; why = why }) × PutNothing
   MayEndWith WriteFault = FetchedAll × Rose o.sink_before o.sink_after × PutFront
+  MayEndWith (BadReport line) = ⊥
+  MayEndWith Illegal = ⊥
   MayEndWith NoMemory = PutNothing ⊎ (FetchedAll × PutFront)
 
   -- nothing stands against a whole report: the shelf tells files of which nothing is refused, and no count of faults rose

@@ -1,8 +1,9 @@
 -- What the parts of a run make of its files.
-use Rattle.std.specs.Prelude.{◌≡◌, ℕ, suc, ◌<◌, ◌≤◌, ◌⊎◌, List, [], ◌∷◌, length, map, Some, None, Option, Vec, slice_get, decimal}
+use Rattle.std.specs.Prelude.{◌≡◌, ℕ, suc, ◌<◌, ◌≤◌, ◌⊎◌, List, [], ◌∷◌, length, map, Some, None, Option, Vec, slice_get, true, false, decimal}
 use Rattle.std.specs.declared.alloc.Global.{Global}
 use Rattle.std.specs.Ordering.{nat_cmp}
-use Rattle.ck_io.specs.Sink.{AppendsPrefix}
+use Rattle.ck_io.specs.Faults.{Rose}
+use Rattle.ck_io.specs.Sink.{appended, AppendsPrefix}
 use Rattle.ck_history.specs.Map.{after, answer_after, replies}
 use Rattle.ck_history.specs.Legal.{AllLegal}
 use Rattle.ck_history.specs.declared.update.Update.{Update}
@@ -19,12 +20,17 @@ use Rattle.ck_report.specs.declared.asked.Asked.{Asked}
 use Rattle.ck_report.specs.declared.put.PutError.{PutError}
 use Rattle.ck_report.specs.declared.put.PutError.TheVariants.{Failed}
 use Rattle.ck_report.specs.declared.put.PutError.TheVariants as put
+use Rattle.ck_report.specs.Reports.{IsReport, BreaksAt}
 use Rattle.ck_report.specs.Text.{report_text}
+use Rattle.ck_judge.specs.Verdict.{is_legal}
+use Rattle.ck_judge.specs.declared.verdict.Verdict.{Verdict}
+use Rattle.ck_history.specs.Key.{IsKey}
 use Rattle.ck_pool.specs.Served.{line_total}
 use Rattle.ck_lookup.specs.declared.outcome.Outcome.{Outcome}
-use Rattle.ck_lookup.specs.declared.outcome.Outcome.TheVariants.{ReadFault, BadScript, TooLarge, NoMemory}
+use Rattle.ck_lookup.specs.declared.outcome.Outcome.TheVariants.{Done, ReadFault, BadScript, TooLarge, WriteFault, BadReport, Illegal, NoMemory}
 use Rattle.ck_lookup.specs.Headline.{capacity, all_asked}
 use Rattle.ck_lookup.specs.Limits.{AreWithin}
+use Rattle.ck_lookup.specs.Judging.{verdict_text, IsBadReport, HasBadReport, HasBadScriptBeside}
 use Rattle.ck_lookup.specs.Causes.{IsFaultOf, IsLawful, IsBadScript, HasBadScript, IsReadFault, IsTooLarge, AreRead, AreSaid}
 
 -- the queries among a file's lines, each with the next answer
@@ -108,11 +114,50 @@ pub record AreRunnable (held : List ℕ → Option (List ℕ)) (names : List (Li
   pub within : AreWithin (update_file ∷ query_files)
   pub said : AreSaid update_file query_files ups asks
 
--- the outcome of a run of these files that gets no report
 module _ (held : List ℕ → Option (List ℕ)) (names : List (List ℕ)) (before after : List ℕ → ℕ) where
+  -- the outcome of a run whose files weren't all fetched
+  abbrev pub IsRefusedFetch : Outcome → Type 0
+  IsRefusedFetch (ReadFault file) = IsReadFault held names before after file
+  IsRefusedFetch (TooLarge file) = (after ≡ before) × IsTooLarge held names file
+  IsRefusedFetch NoMemory = Unit {0}
+  IsRefusedFetch _ = ⊥
+
+  -- the outcome of a run of these files that gets no report
   abbrev pub IsRefusedRun : Outcome → Type 0
   IsRefusedRun (ReadFault file) = IsReadFault held names before after file
   IsRefusedRun (TooLarge file) = (after ≡ before) × IsTooLarge held names file
   IsRefusedRun (BadScript file line why) = (after ≡ before) × HasBadScript held names file (record { line = line; why = why })
   IsRefusedRun NoMemory = Unit {0}
   IsRefusedRun _ = ⊥
+
+-- the outcome where a file was to be a report, and wasn't read
+abbrev pub IsNoReport : List ℕ → Outcome → Type 0
+IsNoReport bytes (BadReport line) = BreaksAt IsKey decimal nat_cmp bytes line × (IsReport IsKey decimal nat_cmp bytes → ⊥)
+IsNoReport bytes NoMemory = Unit {0}
+IsNoReport bytes _ = ⊥
+
+-- the outcome where the line of a verdict was put, or a front of it, or nothing was put
+abbrev pub PutsVerdict : Verdict → Option (List ℕ) → Option (List ℕ) → ℕ → ℕ → Outcome → Type 0
+PutsVerdict verdict before after faults_before faults_after Done = (is_legal verdict ≡ true) × (after ≡ appended before (verdict_text verdict))
+PutsVerdict verdict before after faults_before faults_after Illegal = (is_legal verdict ≡ false) × (after ≡ appended before (verdict_text verdict))
+PutsVerdict verdict before after faults_before faults_after WriteFault = Rose faults_before faults_after × AppendsPrefix before after (verdict_text verdict)
+PutsVerdict verdict before after faults_before faults_after NoMemory = after ≡ before
+PutsVerdict verdict before after faults_before faults_after _ = ⊥
+
+-- the outcome of a run whose files aren't judged
+module _ (update_file : List ℕ) (query_files : List (List ℕ)) (report_file : List ℕ) where
+  abbrev pub IsNotJudged : Outcome → Type 0
+  IsNotJudged (BadScript file line why) = IsBadScript update_file query_files file (record { line = line; why = why })
+  IsNotJudged (BadReport line) = IsBadReport update_file query_files report_file line
+  IsNotJudged NoMemory = Unit {0}
+  IsNotJudged _ = ⊥
+
+-- the outcome of a run that finds no verdict
+module _ (held : List ℕ → Option (List ℕ)) (names : List (List ℕ)) (before after : List ℕ → ℕ) where
+  abbrev pub HasNoVerdict : Outcome → Type 0
+  HasNoVerdict (ReadFault file) = IsReadFault held names before after file
+  HasNoVerdict (TooLarge file) = (after ≡ before) × IsTooLarge held names file
+  HasNoVerdict (BadScript file line why) = (after ≡ before) × HasBadScriptBeside held names file (record { line = line; why = why })
+  HasNoVerdict (BadReport line) = (after ≡ before) × HasBadReport held names line
+  HasNoVerdict NoMemory = Unit {0}
+  HasNoVerdict _ = ⊥

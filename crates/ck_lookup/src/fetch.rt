@@ -3,7 +3,7 @@ ghost use Rattle.ck_io.specs.Faults.{NeverFall};
 ghost use Rattle.ck_lookup.specs.Limits.{AreWithin};
 ghost use Rattle.ck_lookup.specs.Causes.{AreRead};
 ghost use Rattle.ck_lookup.specs.Fetching.{IsNext, IsRefusedNext};
-ghost use Rattle.ck_lookup.specs.Running.{IsRefusedRun};
+ghost use Rattle.ck_lookup.specs.Running.{IsRefusedFetch};
 
 use crate::files::{Files, MOST_BYTES, NotAdded};
 use crate::outcome::Outcome;
@@ -20,7 +20,7 @@ pub fn fetch_all<S: Shelf>(
     ensures read { IfOk result (AreRead (S.held shelf.old) (updates.now ∷ map (λ name. name.now) queries.now)) }
     ensures within { IfOk result AreWithin }
     ensures fetched { OnOk result (S.faults shelf.new ≡ S.faults shelf.old) }
-    ensures refused { IfErr result (IsRefusedRun (S.held shelf.old) (updates.now ∷ map (λ name. name.now) queries.now) (S.faults shelf.old) (S.faults shelf.new)) }
+    ensures refused { IfErr result (IsRefusedFetch (S.held shelf.old) (updates.now ∷ map (λ name. name.now) queries.now) (S.faults shelf.old) (S.faults shelf.new)) }
     ensures held { S.held shelf.new ≡ S.held shelf.old }
     ensures lasting { NeverFall (S.faults shelf.old) (S.faults shelf.new) }
 {

@@ -4,14 +4,18 @@
 mod asked;
 mod fetch;
 mod files;
+mod judging;
 mod lookup;
+mod making;
 mod outcome;
 mod program;
 mod report;
 mod scripts;
+mod table;
 #[cfg(test)]
 mod tests;
 
 pub use lookup::run;
+pub use making::make;
 pub use outcome::{Outcome, line_of};
 pub use program::{exit_code, run_program};

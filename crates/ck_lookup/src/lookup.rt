@@ -1,23 +1,30 @@
-ghost use Rattle.std.specs.Prelude.{◌≡◌, ◌≤◌, ◌⊎◌, ℕ, List, ◌∷◌, length, map, Some, None, string_bytes, IfOk, IfErr};
-ghost use Rattle.ck_io.specs.Faults.{NeverFall};
+ghost use Rattle.std.specs.Prelude.{◌≡◌, ◌≤◌, ◌⊎◌, ◌++◌, ◌∷◌, [], ℕ, List, map, Some, None, string_bytes};
+ghost use Rattle.ck_io.specs.Faults.{NeverFall, Rose};
 ghost use Rattle.ck_io.specs.Sink.{appended};
 ghost use Rattle.ck_lookup.specs.declared.outcome.Outcome.TheVariants.{Done, Usage, NoMemory};
-ghost use Rattle.ck_command.specs.Words.{Command, names, command_of};
+ghost use Rattle.ck_command.specs.Words.{TableCommand, JudgeCommand, Table, Make, Judge, names, judged_names, command_of};
 ghost use Rattle.ck_lookup.specs.Headline.{IsReportOf};
-ghost use Rattle.ck_lookup.specs.Causes.{Tells, AreAccepted, MayEndWith, IsClear, IsDoneOrNoMemory};
+ghost use Rattle.ck_lookup.specs.Causes.{Tells, AreAccepted, outside, MayEndWith, IsClear, IsDoneOrNoMemory};
+ghost use Rattle.ck_lookup.specs.Making.{made_text, PutsText};
+ghost use Rattle.ck_lookup.specs.Judging.{IsLegalOf, EndsJudged, IsClearJudged, script_told, IsLegalText, IsIllegalText, IsIllegalOrNoMemory};
 
+use crate::judging::run_judge;
+use crate::making::run_make;
 use crate::outcome::Outcome;
-use crate::report::{job_of, put_job};
-use ck_command::read_words;
+use crate::table::run_table;
+use ck_command::{Command, read_words};
 use ck_io::{Gate, Shelf, Sink};
-use ck_report::PutError;
 use std::alloc::Global;
 use std::sync::Wait;
 use std::thread::Threads;
 
-/// Does all that `lookup` does: reads the words, fetches the files that they name, checks them, makes the updates in one
-/// task and answers the queries in others, side by side, and then puts the report to the sink. The words are those after
-/// the program's name.
+/// Does all that `lookup` does. The words are those after the program's name.
+///
+/// - `table` ..: fetches the files that the words name, checks them, makes the updates in one task and answers the queries
+///   in others, side by side, and then puts the report to the sink.
+/// - `make SEED LINES`: generates files, runs them in the same way, and puts the summary of that run.
+/// - `judge table` ..: fetches scripts and a report, and puts the line that tells whether the report could have come from
+///   them, and where it differs first if not.
 pub fn run<R: Threads + Wait + Sync, S: Shelf, K: Sink, G: Gate + Sync>(
     rt: &R,
     alloc: Global,
@@ -33,8 +40,8 @@ pub fn run<R: Threads + Wait + Sync, S: Shelf, K: Sink, G: Gate + Sync>(
 
     // The headline. Where the run is done, and the shelf tells the bytes of the files, nothing of these bytes is refused,
     // and what the sink took in this run is a report of them.
-    ensures report { (c : Command) (update_file : List ℕ) (query_files : List (List ℕ))
-        → command_of (map string_bytes words.now) ≡ Some c
+    ensures report { (c : TableCommand) (update_file : List ℕ) (query_files : List (List ℕ))
+        → command_of (map string_bytes words.now) ≡ Some (Table c)
         → Tells (S.held shelf.old) (names c) update_file query_files
         → result ≡ Done
         → AreAccepted update_file query_files
@@ -42,30 +49,42 @@ pub fn run<R: Threads + Wait + Sync, S: Shelf, K: Sink, G: Gate + Sync>(
 
     // Every outcome has its cause, and none of the refusals that come before it. Where the shelf tells no bytes, there are
     // bytes for each file of which all this holds.
-    ensures ends { (c : Command) → command_of (map string_bytes words.now) ≡ Some c
-        → MayEndWith (record {
-          held = S.held shelf.old;
-          shelf_before = S.faults shelf.old;
-          shelf_after = S.faults shelf.new;
-          taken_before = K.taken sink.old;
-          taken_after = K.taken sink.new;
-          sink_before = K.faults sink.old;
-          sink_after = K.faults sink.new;
-        }) (names c) result }
+    ensures ends { (c : TableCommand) → command_of (map string_bytes words.now) ≡ Some (Table c)
+        → MayEndWith (outside (S.held shelf.old) (S.faults shelf.old) (S.faults shelf.new) (K.taken sink.old) (K.taken sink.new) (K.faults sink.old) (K.faults sink.new)) (names c) result }
 
     // Lawful files, and no fault of shelf or sink, give the whole report, unless memory is wanting.
-    ensures complete { (c : Command) (update_file : List ℕ) (query_files : List (List ℕ))
-        → command_of (map string_bytes words.now) ≡ Some c
-        → IsClear (record {
-          held = S.held shelf.old;
-          shelf_before = S.faults shelf.old;
-          shelf_after = S.faults shelf.new;
-          taken_before = K.taken sink.old;
-          taken_after = K.taken sink.new;
-          sink_before = K.faults sink.old;
-          sink_after = K.faults sink.new;
-        }) (names c) update_file query_files
+    ensures complete { (c : TableCommand) (update_file : List ℕ) (query_files : List (List ℕ))
+        → command_of (map string_bytes words.now) ≡ Some (Table c)
+        → IsClear (outside (S.held shelf.old) (S.faults shelf.old) (S.faults shelf.new) (K.taken sink.old) (K.taken sink.new) (K.faults sink.old) (K.faults sink.new)) (names c) update_file query_files
         → IsDoneOrNoMemory result }
+
+    // The summary of a seed: the sink took all of its text, or a front of it where it failed, or nothing where memory was
+    // wanting.
+    ensures made { (seed lines : ℕ) → command_of (map string_bytes words.now) ≡ Some (Make seed lines)
+        → PutsText (made_text seed lines) (K.taken sink.old) (K.taken sink.new) (K.faults sink.old) (K.faults sink.new) result × (S.faults shelf.new ≡ S.faults shelf.old) }
+
+    // .. and all of it, unless the sink failed or memory is wanting.
+    ensures complete_made { (seed lines : ℕ) → command_of (map string_bytes words.now) ≡ Some (Make seed lines)
+        → (Rose (K.faults sink.old) (K.faults sink.new) → ⊥) → IsDoneOrNoMemory result }
+
+    // A judgment is done only where the report could have come from the scripts.
+    ensures legal { (c : JudgeCommand) (update_file : List ℕ) (query_files : List (List ℕ)) (report_file : List ℕ)
+        → command_of (map string_bytes words.now) ≡ Some (Judge c)
+        → Tells (S.held shelf.old) (judged_names c) update_file (query_files ++ report_file ∷ [])
+        → result ≡ Done
+        → IsLegalOf update_file query_files report_file }
+
+    // Every outcome of a judgment has its cause, and none of the refusals that come before it.
+    ensures judged { (c : JudgeCommand) → command_of (map string_bytes words.now) ≡ Some (Judge c)
+        → EndsJudged (outside (S.held shelf.old) (S.faults shelf.old) (S.faults shelf.new) (K.taken sink.old) (K.taken sink.new) (K.faults sink.old) (K.faults sink.new)) (judged_names c) result }
+
+    // Lawful scripts, a report, and no fault of shelf or sink give the verdict, unless memory is wanting: the run is done
+    // where the report is legal, and ends as `Illegal` where it isn't.
+    ensures complete_judged { (c : JudgeCommand) (update_file : List ℕ) (query_files : List (List ℕ)) (report_file : List ℕ)
+        → command_of (map string_bytes words.now) ≡ Some (Judge c)
+        → (clear : IsClearJudged (outside (S.held shelf.old) (S.faults shelf.old) (S.faults shelf.new) (K.taken sink.old) (K.taken sink.new) (K.faults sink.old) (K.faults sink.new)) (judged_names c) update_file query_files report_file)
+        → (IsLegalText (script_told (outside (S.held shelf.old) (S.faults shelf.old) (S.faults shelf.new) (K.taken sink.old) (K.taken sink.new) (K.faults sink.old) (K.faults sink.new)) (judged_names c) clear) report_file → IsDoneOrNoMemory result)
+        × (IsIllegalText (script_told (outside (S.held shelf.old) (S.faults shelf.old) (S.faults shelf.new) (K.taken sink.old) (K.taken sink.new) (K.faults sink.old) (K.faults sink.new)) (judged_names c) clear) report_file → IsIllegalOrNoMemory result) }
 
     // The shelf holds what it held, and no count of faults falls.
     ensures held { S.held shelf.new ≡ S.held shelf.old }
@@ -73,7 +92,7 @@ pub fn run<R: Threads + Wait + Sync, S: Shelf, K: Sink, G: Gate + Sync>(
     ensures sink_lasting { K.faults sink.old ≤ K.faults sink.new }
 {
     match read_words(alloc, words) {
-        Ok(Some(command)) => {
+        Ok(Some(Command::Table(command))) => {
             let workers = command.workers;
             run_table(
                 rt,
@@ -86,43 +105,11 @@ pub fn run<R: Threads + Wait + Sync, S: Shelf, K: Sink, G: Gate + Sync>(
                 gate,
             )
         }
+        Ok(Some(Command::Make { seed, lines })) => run_make(rt, alloc, seed, lines, sink),
+        Ok(Some(Command::Judge(command))) => {
+            run_judge(alloc, command.updates, &command.others, shelf, sink)
+        }
         Ok(None) => Outcome::Usage,
         Err(_) => Outcome::NoMemory,
-    }
-}
-
-// A run of the files under these names.
-fn run_table<R: Threads + Wait + Sync, S: Shelf, K: Sink, G: Gate + Sync>(
-    rt: &R,
-    alloc: Global,
-    updates: &str,
-    queries: &[&str],
-    workers: u64,
-    shelf: &mut S,
-    sink: &mut K,
-    gate: &G,
-) -> Outcome
-    requires queries { (1 ≤ length queries.now) × (length queries.now ≤ 64) }
-    requires workers { (1 ≤ workers) × (workers ≤ 16) }
-    ensures ends { MayEndWith (record {
-      held = S.held shelf.old;
-      shelf_before = S.faults shelf.old;
-      shelf_after = S.faults shelf.new;
-      taken_before = K.taken sink.old;
-      taken_after = K.taken sink.new;
-      sink_before = K.faults sink.old;
-      sink_after = K.faults sink.new;
-    }) (updates.now ∷ map (λ name. name.now) queries.now) result }
-    ensures held { S.held shelf.new ≡ S.held shelf.old }
-    ensures shelf_lasting { NeverFall (S.faults shelf.old) (S.faults shelf.new) }
-    ensures sink_lasting { K.faults sink.old ≤ K.faults sink.new }
-{
-    match job_of(alloc, updates, queries, shelf) {
-        Err(refusal) => refusal,
-        Ok(job) => match put_job(rt, alloc, &job, workers, sink, gate) {
-            Ok(()) => Outcome::Done,
-            Err(PutError::Failed) => Outcome::WriteFault,
-            Err(PutError::Memory) => Outcome::NoMemory,
-        },
     }
 }

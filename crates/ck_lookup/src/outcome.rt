@@ -1,5 +1,5 @@
 ghost use Rattle.std.specs.Prelude.{◌≡◌, IfOk, string_bytes};
-ghost use Rattle.ck_lookup.specs.Outcomes.{text_of, why_text};
+ghost use Rattle.ck_lookup.specs.Outcomes.{message_of, why_text};
 
 use ck_script::Why;
 use std::alloc::{AllocError, AllocFailed, Global};
@@ -7,7 +7,7 @@ use std::alloc::{AllocError, AllocFailed, Global};
 /// How a run ended. File 0 is the update file, file f the query file with the number f.
 #[derive(Clone, Copy, PartialEq, Eq, Debug)]
 pub enum Outcome {
-    /// The sink took the whole report.
+    /// The sink took the whole report or summary, or the line of a report that is legal.
     Done,
     /// The words name no run.
     Usage,
@@ -20,6 +20,10 @@ pub enum Outcome {
     TooLarge { file: u64 },
     /// The sink failed.
     WriteFault,
+    /// The file that is to be a report is none: this is its first faulty line.
+    BadReport { line: u64 },
+    /// The report isn't one of the scripts. The sink took the whole line that tells where it differs.
+    Illegal,
     /// There was no memory.
     NoMemory,
 }
@@ -39,14 +43,16 @@ impl Outcome {
             Outcome::BadScript { .. } => 4,
             Outcome::TooLarge { .. } => 5,
             Outcome::WriteFault => 7,
+            Outcome::Illegal => 8,
             Outcome::NoMemory => 9,
+            Outcome::BadReport { .. } => 10,
         }
     }
 }
 
 /// The line that tells a user of the outcome, without its line feed. It is empty after a whole report.
 pub fn line_of(alloc: Global, outcome: &Outcome) -> Result<String, AllocError>
-    ensures { IfOk result (λ line. string_bytes line ≡ text_of outcome.now) }
+    ensures { IfOk result (λ line. string_bytes line ≡ message_of outcome.now) }
 {
     match *outcome {
         Outcome::Done => Ok(String::new(alloc)),
@@ -61,6 +67,8 @@ pub fn line_of(alloc: Global, outcome: &Outcome) -> Result<String, AllocError>
         }
         Outcome::TooLarge { file } => format!(in alloc; "lookup: file {file} is too large"),
         Outcome::WriteFault => String::from_str(alloc, "lookup: cannot write"),
+        Outcome::BadReport { line } => format!(in alloc; "lookup: report line {line}"),
+        Outcome::Illegal => String::from_str(alloc, "lookup: not legal"),
         Outcome::NoMemory => String::from_str(alloc, "lookup: out of memory"),
     }
 }

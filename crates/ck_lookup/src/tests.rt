@@ -12,6 +12,8 @@ use std::sync::atomic::Ordering::SeqCst;
 use std::test::Fail;
 use std::thread::Threads;
 
+mod judge;
+mod make;
 mod threads;
 
 // Runs words over files into a sink.
@@ -182,6 +184,25 @@ fn refuses_with_the_cause(rt: HostRuntime) -> Result<(), Fail> {
         },
     )?;
     assert_eq!(rt; line.as_str(), "lookup: file 0 line 1: key");
+    Ok(())
+}
+
+#[test]
+fn puts_nothing_for_words_that_are_not_of_the_form(rt: HostRuntime) -> Result<(), Fail> {
+    let alloc = rt.alloc();
+    let cases: [&[&str]; 4] = [&[], &["table", "u"], &["make", "1"], &["judge", "u", "q"]];
+    for words in cases {
+        let files = shelved(alloc, &["set 7 10\n", "get 7\n"])?;
+        let fails = vec![in alloc; 1u64]?;
+        let (outcome, taken) = ran(&rt, alloc, words, files, fails, 65536, Vec::new(alloc))?;
+        assert_eq!(rt; outcome, Outcome::Usage);
+        assert!(rt; taken.is_empty());
+    }
+    let line = line_of(alloc, &Outcome::Usage)?;
+    assert_eq!(rt;
+        line.as_str(),
+        "usage: lookup table|names|list [--seed N] [--workers N] [--fold] UPDATES QUERY.."
+    );
     Ok(())
 }
 

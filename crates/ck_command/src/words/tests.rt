@@ -1,8 +1,9 @@
 //! Word lists, and what they ask for.
-use super::read_words;
+use super::{Command, JudgeCommand, TableCommand, read_words};
 use std::alloc::{AllocError, Global};
 
-// The words, and the seed, the workers and the files that they ask for.
+// The words, and what they ask for: the seed, the workers and the files of a run, the seed and the lines
+// of a summary, or the files of a judgment.
 const CASES: &[(&[&str], &str)] = &[
     (&[], "usage"),
     (&[""], "usage"),
@@ -16,7 +17,6 @@ const CASES: &[(&[&str], &str)] = &[
     (&["--seed=1", "table", "u", "q"], "usage"),
     (&["names", "u", "q"], "usage"),
     (&["list", "--fold", "u", "q"], "usage"),
-    (&["make", "1", "1"], "usage"),
     (&["--help"], "usage"),
     (&["--version"], "usage"),
     // options before, between and after the files
@@ -81,6 +81,42 @@ const CASES: &[(&[&str], &str)] = &[
     (&["table", "", "q"], "usage"),
     (&["table", "u", "q", ""], "usage"),
     (&["table", "--", "u", ""], "usage"),
+    // two numbers
+    (&["make", "0", "1"], "make 0 1"),
+    (&["make", "5", "0"], "make 5 0"),
+    (
+        &["make", "18446744073709551615", "999999"],
+        "make 18446744073709551615 999999",
+    ),
+    (&["make", "18446744073709551616", "1"], "usage"),
+    (&["make", "1", "1000000"], "usage"),
+    (&["make"], "usage"),
+    (&["make", "1"], "usage"),
+    (&["make", "1", "1", "1"], "usage"),
+    (&["make", "1", ""], "usage"),
+    (&["make", "01", "1"], "usage"),
+    (&["make", "1", "+1"], "usage"),
+    (&["make", "--", "1"], "usage"),
+    (&["make", "--", "1", "1"], "usage"),
+    (&["make", "--seed=1", "1"], "usage"),
+    (&["Make", "1", "1"], "usage"),
+    // a kind, and then files without options
+    (&["judge"], "usage"),
+    (&["judge", "table"], "usage"),
+    (&["judge", "table", "u", "q"], "usage"),
+    (&["judge", "table", "u", "q", "r"], "judge u q r"),
+    (&["judge", "table", "u", "--", "-q", "-"], "judge u -q -"),
+    (&["judge", "table", "u", "q", ""], "usage"),
+    (&["judge", "table", "u", "q", "-r"], "usage"),
+    (&["judge", "table", "--seed=1", "u", "q", "r"], "usage"),
+    (
+        &["judge", "table", "u", "q", "r", "--workers", "4"],
+        "usage",
+    ),
+    (&["judge", "table", "--fold", "u", "q", "r"], "usage"),
+    (&["judge", "names", "u", "q", "r"], "usage"),
+    (&["judge", "make", "u", "q", "r"], "usage"),
+    (&["table", "judge", "q"], "0 4 judge q"),
 ];
 
 // What the words ask for, as text.
@@ -89,9 +125,26 @@ fn asked(alloc: Global, words: &[&str]) -> Result<String, AllocError> {
     for word in words {
         owned.push(String::from_str(alloc, word)?)?;
     }
-    let Some(command) = read_words(alloc, &owned)? else {
-        return String::from_str(alloc, "usage");
-    };
+    match read_words(alloc, &owned)? {
+        None => String::from_str(alloc, "usage"),
+        Some(Command::Make { seed, lines }) => format!(in alloc; "make {seed} {lines}"),
+        Some(Command::Table(command)) => table_asked(alloc, &command),
+        Some(Command::Judge(command)) => judgment_asked(alloc, &command),
+    }
+}
+
+// The same of a judgment.
+fn judgment_asked(alloc: Global, command: &JudgeCommand) -> Result<String, AllocError> {
+    let mut text = format!(in alloc; "judge {}", command.updates)?;
+    for other in &command.others {
+        text.push(' ')?;
+        text.push_str(other)?;
+    }
+    Ok(text)
+}
+
+// The same of a run over a table.
+fn table_asked(alloc: Global, command: &TableCommand) -> Result<String, AllocError> {
     let mut text = format!(in alloc; "{} {} {}", command.seed, command.workers, command.updates)?;
     for query in &command.queries {
         text.push(' ')?;
@@ -100,10 +153,13 @@ fn asked(alloc: Global, words: &[&str]) -> Result<String, AllocError> {
     Ok(text)
 }
 
-// `table`, and then so many files.
-fn files(alloc: Global, count: usize) -> Result<Vec<&'static str>, AllocError> {
-    let mut words = Vec::new(alloc);
-    words.push("table")?;
+// These words, and then so many files.
+fn files(
+    alloc: Global,
+    first: &[&'static str],
+    count: usize,
+) -> Result<Vec<&'static str>, AllocError> {
+    let mut words = Vec::from_slice(alloc, first)?;
     for _ in 0..count {
         words.push("f")?;
     }
@@ -120,9 +176,14 @@ fn what_the_words_ask_for(rt: HostRuntime) -> Result<(), AllocError> {
 
 #[test]
 fn how_many_files(rt: HostRuntime) -> Result<(), AllocError> {
-    let most = files(rt.alloc(), 65)?;
-    let more = files(rt.alloc(), 66)?;
-    assert!(rt; asked(rt.alloc(), &most)?.as_str().starts_with("0 4 f f"));
-    assert_eq!(rt; asked(rt.alloc(), &more)?.as_str(), "usage");
+    let alloc = rt.alloc();
+    let most = files(alloc, &["table"], 65)?;
+    let more = files(alloc, &["table"], 66)?;
+    assert!(rt; asked(alloc, &most)?.as_str().starts_with("0 4 f f"));
+    assert_eq!(rt; asked(alloc, &more)?.as_str(), "usage");
+    let most = files(alloc, &["judge", "table"], 66)?;
+    let more = files(alloc, &["judge", "table"], 67)?;
+    assert!(rt; asked(alloc, &most)?.as_str().starts_with("judge f f"));
+    assert_eq!(rt; asked(alloc, &more)?.as_str(), "usage");
     Ok(())
 }

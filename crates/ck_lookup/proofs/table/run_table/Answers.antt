@@ -1,7 +1,7 @@
 use Rattle.std.proofs.Common.{arith}
 use Rattle.ck_lookup.proofs.Ending.{runnable_report, runnable_begins, memory_ends}
 use Rattle.ck_lookup.proofs.Reporting.{map_long}
-use Rattle.ck_lookup.proofs.lookup.run_table.Goals as goal
+use Rattle.ck_lookup.proofs.table.run_table.Goals as goal
 
 pub put_job-requires-clause-may : goal.put_job-requires-clause-may
 put_job-requires-clause-may g c κs within =
