@@ -135,7 +135,7 @@ MayDo l p (stands k s v) (Store a x) = (a ≡ l.word p.root s 3) × (x ≡ v)
 MayDo l p (deletes k s) (Store a x) = (a ≡ l.word p.root s 0) × (x ≡ 2)
 MayDo l p nothing (Load a x) = a ≡ l.base
 MayDo l p (begins_rebuild root) (Store a x) = (a ≡ l.word root 0 0) × (x ≡ 0)
-MayDo l p action s = ⊥
+MayDo l p a s = ⊥
 
 abbrev pub MayCopy : Layout → ℕ → Action → Stage → Step → Type 0
 MayCopy l root (copies i w) idle (Store at x) = (at ≡ l.word root w.to 3) × (x ≡ w.number)
