@@ -2,9 +2,8 @@
 use super::{Command, JudgeCommand, TableCommand, read_words};
 use std::alloc::{AllocError, Global};
 
-// The words, and what they ask for: the seed, the workers and the files of a run, the seed and the lines
-// of a summary, or the files of a judgment.
-const CASES: &[(&[&str], &str)] = &[
+// The words, and what they ask for: the seed, the workers and the files of a run over a table.
+const TABLES: &[(&[&str], &str)] = &[
     (&[], "usage"),
     (&[""], "usage"),
     (&["table"], "usage"),
@@ -81,7 +80,11 @@ const CASES: &[(&[&str], &str)] = &[
     (&["table", "", "q"], "usage"),
     (&["table", "u", "q", ""], "usage"),
     (&["table", "--", "u", ""], "usage"),
-    // two numbers
+    (&["table", "judge", "q"], "0 4 judge q"),
+];
+
+// The seed and the lines of a summary: two numbers.
+const SUMMARIES: &[(&[&str], &str)] = &[
     (&["make", "0", "1"], "make 0 1"),
     (&["make", "5", "0"], "make 5 0"),
     (
@@ -100,7 +103,10 @@ const CASES: &[(&[&str], &str)] = &[
     (&["make", "--", "1", "1"], "usage"),
     (&["make", "--seed=1", "1"], "usage"),
     (&["Make", "1", "1"], "usage"),
-    // a kind, and then files without options
+];
+
+// The files of a judgment: a kind, and then files without options.
+const JUDGMENTS: &[(&[&str], &str)] = &[
     (&["judge"], "usage"),
     (&["judge", "table"], "usage"),
     (&["judge", "table", "u", "q"], "usage"),
@@ -116,7 +122,6 @@ const CASES: &[(&[&str], &str)] = &[
     (&["judge", "table", "--fold", "u", "q", "r"], "usage"),
     (&["judge", "names", "u", "q", "r"], "usage"),
     (&["judge", "make", "u", "q", "r"], "usage"),
-    (&["table", "judge", "q"], "0 4 judge q"),
 ];
 
 // What the words ask for, as text.
@@ -167,8 +172,24 @@ fn files(
 }
 
 #[test]
-fn what_the_words_ask_for(rt: HostRuntime) -> Result<(), AllocError> {
-    for (words, wanted) in CASES {
+fn what_a_table_asks_for(rt: HostRuntime) -> Result<(), AllocError> {
+    for (words, wanted) in TABLES {
+        assert_eq!(rt; asked(rt.alloc(), words)?.as_str(), *wanted, "at {words:?}");
+    }
+    Ok(())
+}
+
+#[test]
+fn what_a_summary_asks_for(rt: HostRuntime) -> Result<(), AllocError> {
+    for (words, wanted) in SUMMARIES {
+        assert_eq!(rt; asked(rt.alloc(), words)?.as_str(), *wanted, "at {words:?}");
+    }
+    Ok(())
+}
+
+#[test]
+fn what_a_judgment_asks_for(rt: HostRuntime) -> Result<(), AllocError> {
+    for (words, wanted) in JUDGMENTS {
         assert_eq!(rt; asked(rt.alloc(), words)?.as_str(), *wanted, "at {words:?}");
     }
     Ok(())
