@@ -9,6 +9,7 @@ pub mod Layout
 pub mod Actions
 pub mod Client
 pub mod Host
+pub mod Known
 pub mod Laws
 pub mod Regions
 pub mod Allocation
