@@ -10,10 +10,10 @@ use crate::asked::asked_files;
 use crate::fetch::fetch_all;
 use crate::outcome::Outcome;
 use crate::scripts::{Scripts, read_scripts};
+use ck_history::{Key, Update};
 use ck_io::{Gate, Shelf, Sink};
 use ck_pool::{Job, run_over_snap};
 use ck_report::{PutError, put_report};
-use ck_snap::Snap;
 use std::alloc::Global;
 use std::sync::Wait;
 use std::thread::Threads;
@@ -24,7 +24,7 @@ pub fn job_of<S: Shelf>(
     updates: &str,
     queries: &[&str],
     shelf: &mut S,
-) -> Result<Job<Snap>, Outcome>
+) -> Result<Job<Update<Key>, Key>, Outcome>
     ensures runnable { IfOk result (λ job. AreRunnable (S.held shelf.old) (updates.now ∷ map (λ name. name.now) queries.now) job.ups.items (map (λ file. file.items) job.asks.items)) }
     ensures fetched { OnOk result (S.faults shelf.new ≡ S.faults shelf.old) }
     ensures refused { IfErr result (IsRefusedRun (S.held shelf.old) (updates.now ∷ map (λ name. name.now) queries.now) (S.faults shelf.old) (S.faults shelf.new)) }
@@ -36,7 +36,7 @@ pub fn job_of<S: Shelf>(
 }
 
 // What the bytes of files ask for, the update file first.
-fn job_of_files(alloc: Global, files: &[Vec<u8>]) -> Result<Job<Snap>, Outcome>
+fn job_of_files(alloc: Global, files: &[Vec<u8>]) -> Result<Job<Update<Key>, Key>, Outcome>
     requires { 0 < length files.now }
     ensures said { (update_file : List ℕ) (query_files : List (List ℕ)) → map (λ file. file.items) files.now ≡ update_file ∷ query_files
         → IfOk result (λ job. AreSaid update_file query_files job.ups.items (map (λ file. file.items) job.asks.items)) }
@@ -56,7 +56,7 @@ fn job_of_files(alloc: Global, files: &[Vec<u8>]) -> Result<Job<Snap>, Outcome>
 pub fn put_job<R: Threads + Wait + Sync, K: Sink, G: Gate + Sync>(
     rt: &R,
     alloc: Global,
-    job: &Job<Snap>,
+    job: &Job<Update<Key>, Key>,
     workers: u64,
     sink: &mut K,
     gate: &G,

@@ -12,6 +12,7 @@ ghost use Rattle.ck_pool.specs.Snapshots.{AllPlacedIn};
 use crate::job::{Job, Served};
 use crate::map_results::MapResults;
 use crate::serving::serve;
+use ck_history::{Key, Update};
 use ck_io::Gate;
 use ck_snap::{Snap, SnapPass, SnapWriter};
 use std::alloc::{AllocError, Global};
@@ -46,7 +47,7 @@ fn serve_and_tie<G: Gate + Sync, R: Threads + Wait + Sync>(
     snap: &Snap,
     hand: &mut SnapWriter,
     passes: Vec<SnapPass>,
-    job: &Job<Snap>,
+    job: &Job<Update<Key>, Key>,
     workers: u64,
     gate: &G,
 ) -> Result<MapResults, AllocError>
@@ -83,7 +84,7 @@ fn serve_and_tie<G: Gate + Sync, R: Threads + Wait + Sync>(
 pub fn run_over_snap<G: Gate + Sync, R: Threads + Wait + Sync>(
     rt: &R,
     alloc: Global,
-    job: &Job<Snap>,
+    job: &Job<Update<Key>, Key>,
     workers: u64,
     gate: &G,
 ) -> Result<MapResults, AllocError>
