@@ -1,0 +1,8 @@
+//! The writer's half of the hash table, after `ck_ht` of Concurrency Kit: its updates, step by step, in a domain whose client holds the table.
+#![tactic(auto)]
+
+mod state;
+mod writes;
+
+pub use ck_htlaw::HtClient;
+pub use state::{HtState, Need};
