@@ -1,2 +1,4 @@
 pub mod Writing
+pub mod Making
 pub mod Slots
+pub mod Shapes

@@ -80,9 +80,3 @@ module _ (l : Layout) where
   pub goes_over : (a : Answers) (p q : WriterState) (d d' : LogEntry ℕ) (log : List (LogEntry ℕ)) (e : Entry) → WriterAt a p d log → is_table_word l e.step ≡ true → writer_after l p e ≡ q → due_at l p p.stage e d ≡ d' → q.log ≡ suc p.log → WriterAt (answers_next l a e) q d' (log ++ d' ∷ [])
   goes_over a p q d d' log e at own next due more =
       subst (λ (x : List (LogEntry ℕ)). WriterAt (answers_next l a e) q d' x) (ap (λ (n : ℕ). log ++ cond (nat_lt p.log n) (d' ∷ []) []) more ∙ ap (λ (b : Bool). log ++ cond b (d' ∷ []) []) (one_less p.log)) (goes a p q d d' log e at own next due)
-
--- the writer's end after a step
-module _ {D F : Type 0} (h : Host D) (o : Origin D) where
-  pub steps_is : (w w' : Writer D F) (e e' : Entry) → w' ≡ record w { token = adding w.token (e ∷ []) } → e ≡ e' → IsDomainToken h.client w'.token → Steps h o w e' w'
-  steps_is w w' e e' made same part = let made' : w' ≡ record w { token = adding w.token (e' ∷ []) } = made ∙ ap (λ (x : Entry). record w { token = adding w.token (x ∷ []) }) same in
-      record { made = made'; knows_now = knows_next h o w.token w'.token e' (ap (λ (v : Writer D F). v.token) made'); is_token = part }

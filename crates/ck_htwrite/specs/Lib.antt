@@ -1,3 +1,4 @@
 pub mod Arena
 pub mod State
 pub mod Writes
+pub mod Updates

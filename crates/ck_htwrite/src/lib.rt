@@ -2,6 +2,7 @@
 #![tactic(auto)]
 
 mod state;
+mod updates;
 mod writes;
 
 pub use ck_htlaw::HtClient;

@@ -10,7 +10,8 @@ ghost use Rattle.ck_htlaw.specs.Layout.{log_of, table_words};
 ghost use Rattle.ck_htlaw.specs.Client.{answers_next};
 ghost use Rattle.ck_htlaw.specs.Known.{knows};
 ghost use Rattle.ck_htwrite.specs.Writes.{counters_in, MayStep, Steps};
-ghost use Rattle.ck_htwrite.specs.State.{IsShaped, counter_at, next_count};
+ghost use Rattle.ck_htwrite.specs.State.{IsShaped, next_count};
+ghost use Rattle.ck_htwrite.specs.Updates.{bumped_lists};
 
 use crate::state::HtState;
 use ck_epoch::{Domain, Within, Writer};
@@ -27,7 +28,7 @@ pub(crate) fn store<D: Within<HtClient>, F, O: Opens>(
     requires table { table writer.old.token ≡ domain.now }
     requires word { at < table_words (counters_in (host D.meaning D.place D.part) domain.now.origin) }
     requires due { MayStep (host D.meaning D.place D.part) domain.now.origin writer.old.token (entry O.opens (Store ((lies (host D.meaning D.place D.part) domain.now.origin).base + at) value)) }
-    ensures step { Steps (host D.meaning D.place D.part) domain.now.origin writer.old (entry O.opens (Store ((lies (host D.meaning D.place D.part) domain.now.origin).base + at) value)) writer.new }
+    ensures step { Steps (host D.meaning D.place D.part) domain.now.origin writer.old (entry O.opens (Store ((lies (host D.meaning D.place D.part) domain.now.origin).base + at) value) ∷ []) writer.new }
 {
     let client = domain.client();
     domain.write::<O, F>(writer, client.base() + at, value);
@@ -40,7 +41,7 @@ pub(crate) fn ask_root<D: Within<HtClient>, F, O: Opens>(
 ) -> u64
     requires table { table writer.old.token ≡ domain.now }
     requires due { (n : ℕ) → MayStep (host D.meaning D.place D.part) domain.now.origin writer.old.token (entry O.opens (Load (lies (host D.meaning D.place D.part) domain.now.origin).base n)) }
-    ensures step { Steps (host D.meaning D.place D.part) domain.now.origin writer.old (entry O.opens (Load (lies (host D.meaning D.place D.part) domain.now.origin).base result)) writer.new }
+    ensures step { Steps (host D.meaning D.place D.part) domain.now.origin writer.old (entry O.opens (Load (lies (host D.meaning D.place D.part) domain.now.origin).base result) ∷ []) writer.new }
 {
     let client = domain.client();
     domain.ask::<O, F>(writer, client.base())
@@ -60,7 +61,7 @@ pub(crate) fn put_word<D: Within<HtClient>, F, O: Opens>(
     requires word { j < 4 }
     requires shape { IsShaped (counters_in (host D.meaning D.place D.part) domain.now.origin) state.old }
     requires due { MayStep (host D.meaning D.place D.part) domain.now.origin writer.old.token (entry O.opens (Store ((lies (host D.meaning D.place D.part) domain.now.origin).word state.old.root at j) value)) }
-    ensures step { Steps (host D.meaning D.place D.part) domain.now.origin writer.old (entry O.opens (Store ((lies (host D.meaning D.place D.part) domain.now.origin).word state.old.root at j) value)) writer.new }
+    ensures step { Steps (host D.meaning D.place D.part) domain.now.origin writer.old (entry O.opens (Store ((lies (host D.meaning D.place D.part) domain.now.origin).word state.old.root at j) value) ∷ []) writer.new }
     ensures state { state.new ≡ record state.old { words = with_item state.old.words (4 * at + j) value } }
 {
     let word = 4 * at + j;
@@ -78,8 +79,8 @@ pub(crate) fn bump<D: Within<HtClient>, F, O: Opens>(
     requires shape { IsShaped (counters_in (host D.meaning D.place D.part) domain.now.origin) state.old }
     requires small { next_count (counters_in (host D.meaning D.place D.part) domain.now.origin) state.old < 2 ^ 63 }
     requires due { MayStep (host D.meaning D.place D.part) domain.now.origin writer.old.token (entry O.opens (Store ((lies (host D.meaning D.place D.part) domain.now.origin).counter state.old.root) (next_count (counters_in (host D.meaning D.place D.part) domain.now.origin) state.old))) }
-    ensures step { Steps (host D.meaning D.place D.part) domain.now.origin writer.old (entry O.opens (Store ((lies (host D.meaning D.place D.part) domain.now.origin).counter state.old.root) (next_count (counters_in (host D.meaning D.place D.part) domain.now.origin) state.old))) writer.new }
-    ensures state { state.new ≡ record state.old { counters = with_item state.old.counters (counter_at (counters_in (host D.meaning D.place D.part) domain.now.origin) state.old.root) (next_count (counters_in (host D.meaning D.place D.part) domain.now.origin) state.old) } }
+    ensures step { Steps (host D.meaning D.place D.part) domain.now.origin writer.old (entry O.opens (Store ((lies (host D.meaning D.place D.part) domain.now.origin).counter state.old.root) (next_count (counters_in (host D.meaning D.place D.part) domain.now.origin) state.old)) ∷ []) writer.new }
+    ensures state { state.new ≡ bumped_lists (counters_in (host D.meaning D.place D.part) domain.now.origin) state.old }
 {
     let at = (state.root / 32 - 1 - state.counters.as_slice().len() as u64) / 32;
     let count = state.counters[at as usize] + 1;

@@ -4,7 +4,8 @@ use Rattle.ck_run.specs.Run.{entry}
 use Rattle.ck_epoch.specs.State.{base_of}
 use Rattle.ck_epoch.specs.Calls.{MayFollow}
 use Rattle.ck_htlaw.specs.Host.{host, lies}
-use Rattle.ck_htwrite.proofs.Writing.{may_step, steps_is}
+use Rattle.ck_htwrite.proofs.Writing.{may_step}
+use Rattle.ck_htwrite.proofs.Making.{steps_is}
 use Rattle.ck_htwrite.proofs.writes.ask_root.Goals as goal
 
 pub ask-requires-clause-client : goal.ask-requires-clause-client

@@ -1,4 +1,4 @@
-use Rattle.std.proofs.Common.{ℕ, ◌+◌, length, ◌∙◌, ap, subst, sym, arith}
+use Rattle.std.proofs.Common.{ℕ, ◌+◌, [], ◌∷◌, length, ◌∙◌, ap, subst, sym, arith}
 use Rattle.std.specs.Vec.{with_item}
 use Rattle.ck_run.specs.declared.account.Step.TheVariants.{Store}
 use Rattle.ck_run.specs.Run.{entry}
@@ -31,7 +31,7 @@ returns-clause-step g c =
     let h = host g.D.Client.meaning g.D.Within.place g.D.Within.part in
     let n = counters_in h o in let s = c.args.state.now in
     let is = bump_is n s c.requires.shape (length c.as_slice.result.now) c.index.result.now (ap length c.as_slice.ensures.value) c.index.ensures in
-    subst (λ (w : ℕ × ℕ). Steps h o c.args.writer.now (entry g.O.Opens.opens (Store w.0 w.1)) c.store.new.writer)
+    subst (λ (w : ℕ × ℕ). Steps h o c.args.writer.now (entry g.O.Opens.opens (Store w.0 w.1) ∷ []) c.store.new.writer)
     (λ i. ((ap (λ (k : ℕ). (lies h o).base + (1 + k)) is.0 ∙ counter_word (lies h o).base n s.root) i, is.1 i)) c.store.ensures.step
 
 pub returns-clause-state : goal.returns-clause-state

@@ -1,4 +1,4 @@
-use Rattle.std.proofs.Common.{ℕ, ◌+◌, ap, subst, sym, arith}
+use Rattle.std.proofs.Common.{ℕ, ◌+◌, [], ◌∷◌, ap, subst, sym, arith}
 use Rattle.ck_run.specs.declared.account.Step.TheVariants.{Store}
 use Rattle.ck_run.specs.Run.{entry}
 use Rattle.ck_htlaw.specs.Host.{host, lies}
@@ -28,4 +28,4 @@ pub returns-clause-step : goal.returns-clause-step
 returns-clause-step g c =
     let o = c.args.domain.now.origin in
     let h = host g.D.Client.meaning g.D.Within.place g.D.Within.part in
-    subst (λ (w : ℕ). Steps h o c.args.writer.now (entry g.O.Opens.opens (Store w c.args.value)) c.store.new.writer) (word_at (lies h o).base c.args.state.now.root c.args.at c.args.j) c.store.ensures.step
+    subst (λ (w : ℕ). Steps h o c.args.writer.now (entry g.O.Opens.opens (Store w c.args.value) ∷ []) c.store.new.writer) (word_at (lies h o).base c.args.state.now.root c.args.at c.args.j) c.store.ensures.step

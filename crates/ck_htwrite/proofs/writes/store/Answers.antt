@@ -4,7 +4,8 @@ use Rattle.ck_run.specs.Run.{entry}
 use Rattle.ck_epoch.specs.Calls.{MayFollow}
 use Rattle.ck_htlaw.specs.Host.{host, lies}
 use Rattle.ck_htlaw.proofs.Tokens.{word_is}
-use Rattle.ck_htwrite.proofs.Writing.{may_step, steps_is}
+use Rattle.ck_htwrite.proofs.Writing.{may_step}
+use Rattle.ck_htwrite.proofs.Making.{steps_is}
 use Rattle.ck_htwrite.proofs.writes.store.Goals as goal
 
 pub write-requires-clause-client : goal.write-requires-clause-client
