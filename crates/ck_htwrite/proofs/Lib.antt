@@ -2,3 +2,5 @@ pub mod Writing
 pub mod Making
 pub mod Slots
 pub mod Shapes
+pub mod Fills
+pub mod Finishing
