@@ -4,3 +4,4 @@ pub mod Slots
 pub mod Shapes
 pub mod Fills
 pub mod Finishing
+pub mod Facts

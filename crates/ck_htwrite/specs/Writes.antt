@@ -70,8 +70,9 @@ module _ {D : Type 0} (h : Host D) (origin : Origin D) where
   abbrev pub MayMake : Token D → List Entry → Type 0
   MayMake t es = (p : WriterState) × WriterIs t p × CanMake (lies h origin) p es
 
-  -- The writer made these steps, and nothing else of its token's end changed
+  -- The writer made these steps, and nothing else of its token's end changed. What was retired is pending or dispatched as before
   pub record Steps {F : Type 0} (w : Writer D F) (es : List Entry) (w' : Writer D F) : Type 0 where
     pub made : w' ≡ record w { token = adding w.token es }
     pub knows_now : knows h origin w'.token ≡ state_after (answers_next (lies h origin)) (knows h origin w.token) es
     pub is_token : IsDomainToken h.client w'.token
+    pub same : ((state w'.token).pending ≡ (state w.token).pending) × ((state w'.token).dispatched ≡ (state w.token).dispatched)

@@ -21,4 +21,4 @@ returns g c =
     let o = c.args.domain.now.origin in
     let h = host g.D.Client.meaning g.D.Within.place g.D.Within.part in
     let word = ap (λ (b : ℕ). base_of o + b) (c.base.ensures ∙ ap h.place c.client-client.ensures.same) in
-    record { step = steps_is h o _ _ _ _ c.ask.ensures.step (ap (λ (w : ℕ). entry g.O.Opens.opens (Load w c.ask.result)) word) c.ask.ensures.part }
+    record { step = steps_is h o _ _ _ _ c.ask.ensures.step (ap (λ (w : ℕ). entry g.O.Opens.opens (Load w c.ask.result)) word) c.ask.ensures.part (c.ask.ensures.same.0, c.ask.ensures.same.1) }

@@ -21,4 +21,4 @@ returns g c =
     let o = c.args.domain.now.origin in
     let h = host g.D.Client.meaning g.D.Within.place g.D.Within.part in
     let word = word_is h o c.base.result (h.place c.client-client.result.now) c.args.at c.base.ensures (ap h.place c.client-client.ensures.same) in
-    record { step = steps_is h o _ _ _ _ c.write.ensures.step (ap (λ (w : ℕ). entry g.O.Opens.opens (Store w c.args.value)) word) c.write.ensures.part }
+    record { step = steps_is h o _ _ _ _ c.write.ensures.step (ap (λ (w : ℕ). entry g.O.Opens.opens (Store w c.args.value)) word) c.write.ensures.part (c.write.ensures.same.0, c.write.ensures.same.1) }

@@ -1,0 +1,105 @@
+-- What the law of the table says of the writer's token.
+use Rattle.std.proofs.Common.{◌≡◌, ℕ, ◌+◌, ◌*◌, ◌<◌, ◌≤◌, List, [], ◌++◌, length, append-nil, refl, sym, ap, ◌∙◌, subst, arith}
+use Rattle.std.specs.Ordering.{nat_cmp}
+use Rattle.ck_run.specs.Run.{Run, account}
+use Rattle.ck_run.specs.Tokens.{number, origin}
+use Rattle.ck_history.specs.declared.log.LogEntry.{LogEntry}
+use Rattle.ck_history.specs.Map.{step, find, IsMap as Sorted}
+use Rattle.ck_slots.specs.Slots.{SlotsView}
+use Rattle.ck_epoch.specs.State.{Token}
+use Rattle.ck_epoch.specs.Ends.{IsDomainToken}
+use Rattle.ck_epoch.specs.Epochs.{Reclamation}
+use Rattle.ck_epoch.specs.Within.{IsWithin}
+use Rattle.ck_epoch.proofs.Reclaiming.{reclamation}
+use Rattle.ck_reclaim.specs.Reclaim.{ReclaimsPieces}
+use Rattle.ck_reclaim.proofs.Reclaiming.{reclaims}
+use Rattle.ck_htlaw.specs.Host.{Host, lies}
+use Rattle.ck_htlaw.specs.Regions.{regions}
+use Rattle.ck_htlaw.specs.Calls.{Opening}
+use Rattle.ck_htlaw.specs.Stages.{idle, Stage, IsMap}
+use Rattle.ck_htlaw.specs.Table.{Layout, WriterState, writer, view}
+use Rattle.ck_htlaw.specs.Actions.{most, answer_to, slots_now}
+use Rattle.ck_htlaw.specs.Invariant.{WriterInvariant, owed}
+use Rattle.ck_htlaw.specs.Client.{Answers, answers_after, table}
+use Rattle.ck_htlaw.specs.Linearized.{map_after}
+use Rattle.ck_htlaw.specs.Known.{knows}
+use Rattle.ck_htlaw.proofs.Reclaim.{IsTrue, Holds, scene}
+use Rattle.ck_htlaw.proofs.Always.{always_at}
+use Rattle.ck_htlaw.proofs.Linked.{retires_regions}
+use Rattle.ck_htlaw.proofs.Logging.{HasLog, has_log}
+use Rattle.ck_htlaw.proofs.LogSteps.{Logged}
+use Rattle.ck_htlaw.proofs.Lives.{opt}
+use Rattle.ck_htlaw.proofs.Effects.{answer_right}
+use Rattle.ck_htlaw.proofs.Soundness.{plan_right, now}
+use Rattle.ck_htwrite.specs.Writes.{WriterIs}
+
+module _ {D : Type 0} (h : Host D) (within : IsWithin table h.client h.place h.part) (t : Token D) (part : IsDomainToken h.client t) (zero : number t ≡ 0)
+    (p : WriterState) (is : WriterIs h (origin t) t p) where
+  abbrev l : Layout
+  l = lies h (origin t)
+
+  epochs_law : Reclamation D
+  epochs_law = reclamation D
+
+  pieces : ReclaimsPieces (regions h)
+  pieces = reclaims (regions h) epochs_law (retires_regions h within)
+
+  abbrev run : Run
+  run = part.run
+
+  whole : IsTrue h within epochs_law pieces (origin t) (run ++ [])
+  whole = subst (IsTrue h within epochs_law pieces (origin t)) (sym (append-nil run)) part.is_run
+
+  logged : HasLog h within epochs_law pieces (origin t) (plan_right l (λ root. ((λ k. refl), (λ k. refl)))) run
+  logged = has_log h within epochs_law pieces (origin t) (plan_right l (λ root. ((λ k. refl), (λ k. refl)))) run [] whole
+
+  held : Holds h within epochs_law pieces (origin t) run
+  held = always_at h within epochs_law pieces (origin t) (plan_right l (λ root. ((λ k. refl), (λ k. refl)))) run [] whole
+
+  -- the run tells what the account tells
+  told : knows h (origin t) t ≡ answers_after l (origin t).words 0 (account 0 run)
+  told = ap (λ es. answers_after l (origin t).words (number t) es) (sym part.mine) ∙ ap (λ (n : ℕ). answers_after l (origin t).words n (account n run)) zero
+
+  same : logged.writer_state ≡ p
+  same = let z : writer logged.writer_state ≡ writer p = sym logged.local ∙ (ap (λ (a : Answers). a.local) (sym told) ∙ is) in cc
+
+  same_table : held.is_table.writer_state ≡ p
+  same_table = let z : writer held.is_table.writer_state ≡ writer logged.writer_state = sym held.is_table.is_writer ∙ logged.at_writer in let y : held.is_table.writer_state ≡ logged.writer_state = cc in y ∙ same
+
+  logs : Logged p.stage p.linearized p.log p.maps (knows h (origin t) t).log logged.us (knows h (origin t) t).due
+  logs = subst (λ (x : Answers). Logged p.stage p.linearized p.log p.maps x.log logged.us x.due) (sym told)
+      (subst (λ (q : WriterState). Logged q.stage q.linearized q.log q.maps (answers_after l (origin t).words 0 (account 0 run)).log logged.us (answers_after l (origin t).words 0 (account 0 run)).due) same logged.logs)
+
+  abbrev words : List ℕ
+  words = (scene h within epochs_law pieces (origin t) run).words
+
+  holds : WriterInvariant l words p
+  holds = subst (λ (q : WriterState). WriterInvariant l words q) same_table held.is_table.holds
+
+  is_now : slots_now l p ≡ view l words p.root
+  is_now = now l words p holds
+
+  -- some slot is empty
+  pub has_hole : (e : ℕ) × (e < (l.order p.root).slots) × ((view l p.words p.root).state e ≡ 0)
+  has_hole = subst (λ (v : SlotsView). (e : ℕ) × (e < (l.order p.root).slots) × (v.state e ≡ 0)) (sym is_now) holds.map.hole
+
+  pub log_is : length (knows h (origin t) t).log ≡ p.log
+  log_is = logs.count
+
+  -- between two calls
+  module _ (idles : p.stage ≡ idle) where
+    pub few_bumps : p.bumps ≤ 2 * p.log
+    few_bumps = let r = subst (λ (g : Stage). p.bumps ≤ 2 * p.log + owed g) idles holds.bumps in omega arith
+
+    -- what a call answers is what the map of one thread answers
+    pub right : (c : Opening) → (step nat_cmp most (map_after (knows h (origin t) t).log) (answer_to l p c).update).1 ≡ (answer_to l p c).reply
+    right c = answer_right l words p holds slots (map_after (knows h (origin t) t).log) (subst (λ (us : List (LogEntry ℕ)). Sorted nat_cmp (map_after us)) is_us idle_logs.sorted) (subst (λ (us : List (LogEntry ℕ)). (j : ℕ) → opt (p.maps p.linearized j) ≡ find nat_cmp (map_after us) j) is_us idle_logs.pairs) c
+      where
+        slots : IsMap (l.order p.root) (view l words p.root) p.maps p.linearized idle
+        slots = subst (λ (g : Stage). IsMap (l.order p.root) (view l words p.root) p.maps p.linearized g) idles holds.map
+
+        idle_logs : Logged idle p.linearized p.log p.maps (knows h (origin t) t).log logged.us (knows h (origin t) t).due
+        idle_logs = subst (λ (g : Stage). Logged g p.linearized p.log p.maps (knows h (origin t) t).log logged.us (knows h (origin t) t).due) idles logs
+
+        is_us : logged.us ≡ (knows h (origin t) t).log
+        is_us = idle_logs.is ∙ append-nil (knows h (origin t) t).log
