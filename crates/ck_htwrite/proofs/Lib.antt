@@ -5,3 +5,6 @@ pub mod Shapes
 pub mod Fills
 pub mod Finishing
 pub mod Facts
+pub mod Agree
+pub mod Plans
+pub mod Made

@@ -5,8 +5,8 @@ use Rattle.ck_run.specs.declared.account.Step.{Step}
 use Rattle.ck_run.specs.declared.account.Step.TheVariants.{Load, Store}
 use Rattle.ck_run.specs.Run.{entry}
 use Rattle.ck_run.specs.Range.{word_of}
-use Rattle.ck_run.specs.Tokens.{adding}
-use Rattle.ck_epoch.specs.State.{Token}
+use Rattle.ck_epoch.specs.State.{Origin}
+use Rattle.ck_epoch.specs.Ends.{Writer}
 use Rattle.ck_history.specs.declared.log.LogEntry.{LogEntry}
 use Rattle.ck_history.specs.declared.update.Reply.{Reply}
 use Rattle.ck_slots.specs.Slots.{SlotsView}
@@ -20,10 +20,12 @@ use Rattle.ck_htlaw.specs.Layout.{log_of}
 use Rattle.ck_htlaw.specs.Table.{Layout, WriterState, Action, count}
 use Rattle.ck_htlaw.specs.Actions.{most, action, adds, answer_to, keys_now, tombstones_now}
 use Rattle.ck_htlaw.specs.Client.{Answers}
+use Rattle.ck_htlaw.specs.Host.{Host, lies}
+use Rattle.ck_htlaw.specs.Known.{knows}
 use Rattle.ck_htwrite.specs.declared.state.HtState.{HtState}
 use Rattle.ck_htwrite.specs.declared.state.Need.{Need}
 use Rattle.ck_htwrite.specs.State.{counter_at, next_count, Mirrors, Reflects}
-use Rattle.ck_htwrite.specs.Writes.{WriterAt, opened}
+use Rattle.ck_htwrite.specs.Writes.{counters_in, opened, Steps, WriterAt}
 
 -- the stores by which a slot that has its value gets its key, and is full then
 abbrev pub key_steps : Layout → ℕ → ℕ → ℕ → List Step
@@ -162,10 +164,11 @@ module _ (l : Layout) (p : WriterState) where
     pub shelf : need.shelf ≡ 0
     pub log : need.log ≡ rebuilt_log (log_of p.root) (keys_now l p) + 2
 
-  -- A call that begins so answers what is expected of it, made such steps, and is over
-  pub record IsMade (counters : ℕ) {C : Type 0} (expected : Reply) (AreSteps : List Step → Type 0) (opens : List ℕ) (told : List (LogEntry ℕ)) (t : Token C) (reply : Reply) (u : Token C) (a : Answers) (s : HtState) : Type 0 where
+module _ {D : Type 0} (h : Host D) (o : Origin D) (p : WriterState) where
+  -- A call that opens so, from this state between two calls, answers what is expected of it, made such steps, and is over
+  pub record IsMade {F : Type 0} (expected : Reply) (AreSteps : List Step → Type 0) (opens : List ℕ) (w : Writer D F) (reply : Reply) (w' : Writer D F) (s : HtState) : Type 0 where
     pub reply_is : reply ≡ expected
-    pub over : IsOver counters l a (answer_to l p (opening_of opens)) told s
     pub steps : List Step
     pub are : AreSteps steps
-    pub made : u ≡ adding t (opened opens steps)
+    pub made : Steps h o w (opened opens steps) w'
+    pub over : IsOver (counters_in h o) (lies h o) (knows h o w'.token) (answer_to (lies h o) p (opening_of opens)) (knows h o w.token).log s

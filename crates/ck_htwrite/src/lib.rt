@@ -1,6 +1,7 @@
 //! The writer's half of the hash table, after `ck_ht` of Concurrency Kit: its updates, step by step, in a domain whose client holds the table.
 #![tactic(auto)]
 
+mod cases;
 mod state;
 mod updates;
 mod writes;
