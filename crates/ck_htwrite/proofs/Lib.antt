@@ -8,3 +8,4 @@ pub mod Facts
 pub mod Agree
 pub mod Plans
 pub mod Made
+pub mod Between
