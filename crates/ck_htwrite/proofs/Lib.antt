@@ -9,3 +9,6 @@ pub mod Agree
 pub mod Plans
 pub mod Made
 pub mod Between
+pub mod Openings
+pub mod Opened
+pub mod Taking

@@ -4,6 +4,8 @@
 mod calls;
 mod cases;
 mod state;
+#[cfg(test)]
+mod tests;
 mod updates;
 mod writes;
 
