@@ -79,7 +79,7 @@ module _ (floor base counters : ℕ) (client : HtClient) where
   abbrev l : Layout
   l = layout floor base counters (orders_of client)
 
-  in_column : (ws : List ℕ) (root j i : ℕ) → i < 2 ^ log_of root → slice_index ws (l.word root i j) ≡ column l ws root j i
+  pub in_column : (ws : List ℕ) (root j i : ℕ) → i < 2 ^ log_of root → slice_index ws (l.word root i j) ≡ column l ws root j i
   in_column ws root j i few = sym (ap (λ (t : Bool). cond t (slice_index ws (l.word root i j)) 0) (lt-ltb i (2 ^ log_of root) few))
 
   -- the lists have the slots of the region that they name

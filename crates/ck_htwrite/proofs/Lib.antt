@@ -12,3 +12,12 @@ pub mod Between
 pub mod Openings
 pub mod Opened
 pub mod Taking
+pub mod Clearing
+pub mod Copying
+pub mod Retires
+pub mod Empties
+pub mod Finding
+pub mod Pairs
+pub mod Begun
+pub mod Published
+pub mod Chains

@@ -2,3 +2,4 @@ pub mod Arena
 pub mod State
 pub mod Writes
 pub mod Updates
+pub mod Rebuild

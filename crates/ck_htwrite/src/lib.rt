@@ -3,6 +3,8 @@
 
 mod calls;
 mod cases;
+mod copies;
+mod rebuild;
 mod state;
 #[cfg(test)]
 mod tests;
