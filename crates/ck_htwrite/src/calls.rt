@@ -1,5 +1,5 @@
 //! The calls that update a table, over any domain whose client holds it.
-ghost use Rattle.std.specs.Prelude.{◌≡◌, ◌+◌, ◌<◌, ◌^◌, List, [], ◌∷◌, ◌++◌, length, MatchResult, IfOk, IfErr};
+ghost use Rattle.std.specs.Prelude.{◌≡◌, ◌+◌, ◌<◌, ◌≤◌, ◌^◌, List, [], ◌∷◌, ◌++◌, length, MatchResult, IfOk, IfErr};
 ghost use Rattle.std.specs.Ordering.{nat_cmp};
 ghost use Rattle.ck_run.specs.declared.account.Step.{Step};
 ghost use Rattle.ck_run.specs.Tokens.{table, adding};
@@ -36,6 +36,7 @@ pub fn set<D: Within<HtClient>, F>(
     requires calls { writer.old.calls < 2 ^ 40 }
     requires ready { Ready (host D.meaning D.place D.part) domain.now.origin writer.old state.old }
     ensures same { MatchResult result (λ r. writer.new ≡ record writer.old { token = writer.new.token; calls = writer.old.calls + 1; tally = writer.old.tally + 1 }) (λ need. (writer.new ≡ writer.old) × (state.new ≡ state.old)) }
+    ensures calls { writer.new.calls ≤ writer.old.calls + 1 }
     ensures table { table writer.new.token ≡ table writer.old.token }
     ensures reply { IfOk result (λ r. r ≡ (step nat_cmp most (map_after (knows (host D.meaning D.place D.part) domain.now.origin writer.old.token).log) (Set key value)).1) }
     ensures log { IfOk result (λ r. (knows (host D.meaning D.place D.part) domain.now.origin writer.new.token).log ≡ (knows (host D.meaning D.place D.part) domain.now.origin writer.old.token).log ++ record { update = Set key value; reply = r } ∷ []) }
@@ -63,6 +64,7 @@ pub fn put<D: Within<HtClient>, F>(
     requires calls { writer.old.calls < 2 ^ 40 }
     requires ready { Ready (host D.meaning D.place D.part) domain.now.origin writer.old state.old }
     ensures same { MatchResult result (λ r. writer.new ≡ record writer.old { token = writer.new.token; calls = writer.old.calls + 1; tally = writer.old.tally + 1 }) (λ need. (writer.new ≡ writer.old) × (state.new ≡ state.old)) }
+    ensures calls { writer.new.calls ≤ writer.old.calls + 1 }
     ensures table { table writer.new.token ≡ table writer.old.token }
     ensures reply { IfOk result (λ r. r ≡ (step nat_cmp most (map_after (knows (host D.meaning D.place D.part) domain.now.origin writer.old.token).log) (Put key value)).1) }
     ensures log { IfOk result (λ r. (knows (host D.meaning D.place D.part) domain.now.origin writer.new.token).log ≡ (knows (host D.meaning D.place D.part) domain.now.origin writer.old.token).log ++ record { update = Put key value; reply = r } ∷ []) }

@@ -1,7 +1,7 @@
 ghost use Rattle.std.specs.Prelude.{◌≡◌, ◌≤◌, IfOk};
 ghost use Rattle.ck_run.specs.Tokens.{table};
 ghost use Rattle.ck_epoch.specs.Lists.{Answers};
-ghost use Rattle.ck_htlaw.specs.Client.{table as table_client};
+ghost use Rattle.ck_htlaw.specs.Client.{home_of, table as table_client};
 ghost use Rattle.ck_htlaw.specs.Host.{host};
 ghost use Rattle.ck_htwrite.specs.State.{Ready};
 
@@ -29,7 +29,9 @@ fn opened<F: Fn(Item) -> Back + Drop>(
     Ok((domain, writer, state))
 }
 
-fn home(item: Item) -> Back {
+fn home(item: Item) -> Back
+    ensures { result ≡ home_of item }
+{
     Back {
         shelf: 0,
         at: item.at,
