@@ -19,7 +19,7 @@ use Rattle.ck_htlaw.specs.Host.{Host, first, inner, lies}
 use Rattle.ck_htlaw.specs.Calls.{Opening}
 use Rattle.ck_htlaw.specs.Layout.{log_of}
 use Rattle.ck_htlaw.specs.Table.{Layout, WriterState, writer, view}
-use Rattle.ck_htlaw.specs.Actions.{most, answer_to}
+use Rattle.ck_htlaw.specs.Actions.{most, answer_to, slots_now}
 use Rattle.ck_htlaw.specs.Client.{Answers, table}
 use Rattle.ck_htlaw.specs.Linearized.{map_after}
 use Rattle.ck_htlaw.specs.Known.{knows}
@@ -29,8 +29,8 @@ use Rattle.ck_htwrite.specs.Arena.{IsKept, unreturned}
 use Rattle.ck_htwrite.specs.State.{IsReady, Ready, counter_at, next_count}
 use Rattle.ck_htwrite.specs.Updates.{IsOver}
 use Rattle.ck_htwrite.specs.Writes.{Steps, WriterIs, counters_in}
-use Rattle.ck_htwrite.proofs.Agree.{agree}
-use Rattle.ck_htwrite.proofs.Facts.{has_hole, few_bumps, log_is, right}
+use Rattle.ck_htwrite.proofs.Agree.{agree, agree_now}
+use Rattle.ck_htwrite.proofs.Facts.{has_hole, few_bumps, log_is, right, keys_once}
 
 -- what holds of an error
 pub if_err : (r : Result Reply Need) (P Q : Need → Type 0) → IsErrAnd r P → ((e : Need) → P e → Q e) → IfErr r Q
@@ -66,6 +66,15 @@ module _ {D : Type 0} (h : Host D) (within : IsWithin table h.client h.place h.p
         let a = few_bumps h within t part zero p is_then r.idles in
         let b : length (knows h o t).log ≡ p.log = ap (λ (q : Origin D). length (knows h q t).log) (sym same) ∙ log_is h within t part zero p is_then in
         let d = r.reflects.bumped (counter_at n s.root) in omega arith
+
+    -- no two full slots of the lists have the same key
+    pub once : (a b : ℕ) → a < 2 ^ log_of s.root → b < 2 ^ log_of s.root → (view_of s.words.items).state a ≡ 1 → (view_of s.words.items).state b ≡ 1 → (view_of s.words.items).low a ≡ (view_of s.words.items).low b → (view_of s.words.items).high a ≡ (view_of s.words.items).high b → a ≡ b
+    once a b low_a low_b full_a full_b same_low same_high =
+        let g = agree_now (base_of (inner h o)) (first h o) n (inner h o).config.client p s r.reflects in
+        let many : 2 ^ log_of s.root ≡ 2 ^ log_of p.root = ap (λ (x : ℕ). 2 ^ log_of x) (sym r.reflects.root) in
+        subst (λ (q : Origin D). (a b : ℕ) → a < ((lies h q).order p.root).slots → b < ((lies h q).order p.root).slots → (slots_now (lies h q) p).state a ≡ 1 → (slots_now (lies h q) p).state b ≡ 1 → (slots_now (lies h q) p).low a ≡ (slots_now (lies h q) p).low b → (slots_now (lies h q) p).high a ≡ (slots_now (lies h q) p).high b → a ≡ b) same
+        (keys_once h within t part zero p is_then r.idles) a b (subst (λ (m : ℕ). a < m) many low_a) (subst (λ (m : ℕ). b < m) many low_b)
+        (sym (g.state a low_a) ∙ full_a) (sym (g.state b low_b) ∙ full_b) (sym (g.low a low_a full_a) ∙ (same_low ∙ g.low b low_b full_b)) (sym (g.high a low_a full_a) ∙ (same_high ∙ g.high b low_b full_b))
 
   -- after its steps
   module _ {F : Type 0} (w w' : Writer D F) (es : List Entry) (same : origin w.token ≡ o) (zero : number w.token ≡ 0) (steps : Steps h o w es w') (s s' : HtState) (rd : Ready h o w s) (answer : LogEntry ℕ) (over : IsOver n l (knows h o w'.token) answer (knows h o w.token).log s') where
