@@ -3,4 +3,4 @@ mod Filtered
 mod Places
 mod Linking
 mod Sections
-mod Reclaiming
+pub mod Reclaiming

@@ -1,0 +1,80 @@
+use Rattle.std.proofs.Common.{◌≡◌, ℕ, ◌+◌, ◌*◌, ◌^◌, ◌<◌, List, [], ◌∷◌, refl, sym, ap, ◌∙◌, subst, arith}
+use Rattle.std.specs.Prelude.{MatchResult}
+use Rattle.ck_run.specs.declared.account.Step.{Step}
+use Rattle.ck_history.specs.declared.update.Reply.TheVariants.{Fresh, Full, Was, Has, Missing}
+use Rattle.ck_epoch.specs.State.{base_of}
+use Rattle.ck_htplan.specs.declared.cases.Plan.{Plan}
+use Rattle.ck_htplan.specs.declared.cases.Plan.TheVariants.{Empty, Reuse, Stand, Move}
+use Rattle.ck_htplan.specs.Region.{view_of}
+use Rattle.ck_htlaw.specs.Host.{host, first, inner, lies}
+use Rattle.ck_htlaw.specs.Stages.{Insertion, empty, reuse as reusing}
+use Rattle.ck_htlaw.specs.Layout.{log_of}
+use Rattle.ck_htlaw.specs.Actions.{set_reply, put_reply, remove_reply}
+use Rattle.ck_htwrite.specs.declared.state.HtState.{HtState}
+use Rattle.ck_htwrite.specs.State.{IsReady}
+use Rattle.ck_htwrite.specs.Updates.{Asks, IsIn, HasStates, IsMade, IsNeeded, InsertSteps, ReuseSteps, SetSteps, PutSteps, RemoveSteps}
+use Rattle.ck_htwrite.specs.Writes.{counters_in}
+use Rattle.ck_htwrite.proofs.Slots.{item_in}
+use Rattle.ck_htwrite.proofs.Plans.{room, no_room, keys_few, tombstones_few, about_nothing, about_insert, about_reuse, needed, set_is, put_is, remove_is}
+use Rattle.ck_htwrite.proofs.Made.{may_insert, made_insert, may_reuse, tombstone_here, made_reuse, may_stand, made_stand, may_move, made_move, may_remove, key_here, made_remove, may_ask, made_ask, made_full, made_full_reuse, value_is}
+use Rattle.ck_htwrite.proofs.cases.add_empty.Goals as goal
+
+pub ask_root-requires-clause-due : goal.ask_root-requires-clause-due
+ask_root-requires-clause-due g c found =
+    let o = c.args.domain.now.origin in
+    let h = host g.D.Client.meaning g.D.Within.place g.D.Within.part in
+    let l = lies h o in let n = counters_in h o in let s = c.args.state.now in let w = c.args.writer.now in
+    let fl = base_of (inner h o) in let client = (inner h o).config.client in let fi = first h o in let opens = g.O.Opens.opens in
+    let r = c.requires.due.0 in let p = r.is_writer in
+    let pair : Insertion = record { key = c.args.key; number = c.args.value; to = c.args.at } in let key : ℕ = c.args.key in let value : ℕ = c.args.value in let at : ℕ = c.args.at in
+    may_ask h o w w s s r opens (about_nothing fl fi client p s r.reflects opens empty pair c.requires.due.1 (no_room fl fi client p s r.reflects c.if-state-ge-MOST.true)) found
+
+pub returns-then-state-ge-MOST-clause-made : goal.returns-then-state-ge-MOST-clause-made
+returns-then-state-ge-MOST-clause-made g c r adding_is =
+    let o = c.args.domain.now.origin in
+    let h = host g.D.Client.meaning g.D.Within.place g.D.Within.part in
+    let l = lies h o in let n = counters_in h o in let s = c.args.state.now in let w = c.args.writer.now in
+    let fl = base_of (inner h o) in let client = (inner h o).config.client in let fi = first h o in let opens = g.O.Opens.opens in
+    let p = r.is_writer in
+    let pair : Insertion = record { key = c.args.key; number = c.args.value; to = c.args.at } in let key : ℕ = c.args.key in let value : ℕ = c.args.value in let at : ℕ = c.args.at in
+    let full = no_room fl fi client p s r.reflects c.if-state-ge-MOST.true in
+    made_full h o w c.ask_root.new.writer s s r opens (about_nothing fl fi client p s r.reflects opens empty pair adding_is full) full c.ask_root.result key value at c.ask_root.ensures.step refl
+
+pub is_roomy-requires-clause-tombstones : goal.is_roomy-requires-clause-tombstones
+is_roomy-requires-clause-tombstones g c =
+    let o = c.args.domain.now.origin in
+    let h = host g.D.Client.meaning g.D.Within.place g.D.Within.part in
+    let l = lies h o in let n = counters_in h o in let s = c.args.state.now in let w = c.args.writer.now in
+    let fl = base_of (inner h o) in let client = (inner h o).config.client in let fi = first h o in let opens = g.O.Opens.opens in
+    let r = c.requires.due.0 in let p = r.is_writer in
+    tombstones_few fl fi client p s r.reflects
+
+pub returns-then-not-is_roomy-clause-made : goal.returns-then-not-is_roomy-clause-made
+returns-then-not-is_roomy-clause-made g c r adding_is =
+    let o = c.args.domain.now.origin in
+    let h = host g.D.Client.meaning g.D.Within.place g.D.Within.part in
+    let l = lies h o in let n = counters_in h o in let s = c.args.state.now in let w = c.args.writer.now in
+    let fl = base_of (inner h o) in let client = (inner h o).config.client in let fi = first h o in let opens = g.O.Opens.opens in
+    let p = r.is_writer in
+    needed fl fi client p s r.reflects (room fl fi client p s r.reflects (let z = c.if-state-ge-MOST.false in omega arith)) c.is_roomy.result c.is_roomy.ensures c.if-not-is_roomy.true c.need_for.result c.need_for.ensures.shelf c.need_for.ensures.log
+
+pub insert-requires-clause-due : goal.insert-requires-clause-due
+insert-requires-clause-due g c =
+    let o = c.args.domain.now.origin in
+    let h = host g.D.Client.meaning g.D.Within.place g.D.Within.part in
+    let l = lies h o in let n = counters_in h o in let s = c.args.state.now in let w = c.args.writer.now in
+    let fl = base_of (inner h o) in let client = (inner h o).config.client in let fi = first h o in let opens = g.O.Opens.opens in
+    let r = c.requires.due.0 in let p = r.is_writer in
+    let pair : Insertion = record { key = c.args.key; number = c.args.value; to = c.args.at } in let key : ℕ = c.args.key in let value : ℕ = c.args.value in let at : ℕ = c.args.at in
+    may_insert h o w w s s r opens key value at c.requires.slot (about_insert fl fi client p s r.reflects opens pair c.requires.due.1 (room fl fi client p s r.reflects (let z = c.if-state-ge-MOST.false in omega arith)) c.is_roomy.result c.is_roomy.ensures c.if-not-is_roomy.false)
+
+pub returns-clause-made : goal.returns-clause-made
+returns-clause-made g c r adding_is =
+    let o = c.args.domain.now.origin in
+    let h = host g.D.Client.meaning g.D.Within.place g.D.Within.part in
+    let l = lies h o in let n = counters_in h o in let s = c.args.state.now in let w = c.args.writer.now in
+    let fl = base_of (inner h o) in let client = (inner h o).config.client in let fi = first h o in let opens = g.O.Opens.opens in
+    let p = r.is_writer in
+    let pair : Insertion = record { key = c.args.key; number = c.args.value; to = c.args.at } in let key : ℕ = c.args.key in let value : ℕ = c.args.value in let at : ℕ = c.args.at in
+    let fits = room fl fi client p s r.reflects (let z = c.if-state-ge-MOST.false in omega arith) in
+    made_insert h o w c.insert.new.writer s c.insert.new.state r opens key value at c.requires.slot (about_insert fl fi client p s r.reflects opens pair adding_is fits c.is_roomy.result c.is_roomy.ensures c.if-not-is_roomy.false) c.requires.was fits c.insert.ensures.steps c.insert.ensures.state

@@ -1,0 +1,123 @@
+use Rattle.std.proofs.Common.{◌≡◌, ℕ, ◌+◌, ◌*◌, ◌^◌, ◌<◌, List, [], ◌∷◌, refl, sym, ap, ◌∙◌, subst, arith}
+use Rattle.std.specs.Prelude.{MatchResult}
+use Rattle.ck_run.specs.declared.account.Step.{Step}
+use Rattle.ck_history.specs.declared.update.Reply.TheVariants.{Fresh, Full, Was, Has, Missing}
+use Rattle.ck_epoch.specs.State.{base_of}
+use Rattle.ck_htplan.specs.declared.cases.Plan.{Plan}
+use Rattle.ck_htplan.specs.declared.cases.Plan.TheVariants.{Empty, Reuse, Stand, Move}
+use Rattle.ck_htplan.specs.Region.{view_of}
+use Rattle.ck_htlaw.specs.Host.{host, first, inner, lies}
+use Rattle.ck_htlaw.specs.Stages.{Insertion, empty, reuse as reusing}
+use Rattle.ck_htlaw.specs.Layout.{log_of}
+use Rattle.ck_htlaw.specs.Actions.{set_reply, put_reply, remove_reply}
+use Rattle.ck_htwrite.specs.declared.state.HtState.{HtState}
+use Rattle.ck_htwrite.specs.State.{IsReady}
+use Rattle.ck_htwrite.specs.Updates.{Asks, IsIn, HasStates, IsMade, IsNeeded, InsertSteps, ReuseSteps, SetSteps, PutSteps, RemoveSteps}
+use Rattle.ck_htwrite.specs.Writes.{counters_in}
+use Rattle.ck_htwrite.proofs.Slots.{item_in}
+use Rattle.ck_htwrite.proofs.Plans.{room, no_room, keys_few, tombstones_few, about_nothing, about_insert, about_reuse, needed, set_is, put_is, remove_is}
+use Rattle.ck_htwrite.proofs.Made.{may_insert, made_insert, may_reuse, tombstone_here, made_reuse, may_stand, made_stand, may_move, made_move, may_remove, key_here, made_remove, may_ask, made_ask, made_full, made_full_reuse, value_is}
+use Rattle.ck_htwrite.proofs.cases.set_by.Goals as goal
+
+pub add_empty-requires-clause-due : goal.add_empty-requires-clause-due
+add_empty-requires-clause-due g c =
+    let o = c.args.domain.now.origin in
+    let h = host g.D.Client.meaning g.D.Within.place g.D.Within.part in
+    let l = lies h o in let n = counters_in h o in let s = c.args.state.now in let w = c.args.writer.now in
+    let fl = base_of (inner h o) in let client = (inner h o).config.client in let fi = first h o in let opens = g.O.Opens.opens in
+    let r = c.requires.due.0 in let p = r.is_writer in
+    let key : ℕ = c.args.key in let value : ℕ = c.args.value in
+    (r, (set_is l p r.idles key value (Empty c.in-Empty.at) (c.requires.due.1 ∙ c.in-Empty.is) opens c.requires.name))
+
+pub add_reused-requires-clause-due : goal.add_reused-requires-clause-due
+add_reused-requires-clause-due g c =
+    let o = c.args.domain.now.origin in
+    let h = host g.D.Client.meaning g.D.Within.place g.D.Within.part in
+    let l = lies h o in let n = counters_in h o in let s = c.args.state.now in let w = c.args.writer.now in
+    let fl = base_of (inner h o) in let client = (inner h o).config.client in let fi = first h o in let opens = g.O.Opens.opens in
+    let r = c.requires.due.0 in let p = r.is_writer in
+    let key : ℕ = c.args.key in let value : ℕ = c.args.value in
+    (r, (set_is l p r.idles key value (Reuse c.in-Reuse.at) (c.requires.due.1 ∙ c.in-Reuse.is) opens c.requires.name))
+
+pub returns-in-Empty-clause-made : goal.returns-in-Empty-clause-made
+returns-in-Empty-clause-made g c r is =
+    let o = c.args.domain.now.origin in
+    let h = host g.D.Client.meaning g.D.Within.place g.D.Within.part in
+    let l = lies h o in let n = counters_in h o in let s = c.args.state.now in let w = c.args.writer.now in
+    let fl = base_of (inner h o) in let client = (inner h o).config.client in let fi = first h o in let opens = g.O.Opens.opens in
+    let p = r.is_writer in
+    let key : ℕ = c.args.key in let value : ℕ = c.args.value in
+    subst (λ (z : Plan). MatchResult c.add_empty.result (λ reply. IsMade h o p (set_reply l p z) (SetSteps l p key value z) opens w reply c.add_empty.new.writer c.add_empty.new.state) (λ need. IsNeeded l p need)) (sym c.in-Empty.is) (c.add_empty.ensures.made r (set_is l p r.idles key value (Empty c.in-Empty.at) (is ∙ c.in-Empty.is) opens c.requires.name))
+
+pub returns-in-Reuse-clause-made : goal.returns-in-Reuse-clause-made
+returns-in-Reuse-clause-made g c r is =
+    let o = c.args.domain.now.origin in
+    let h = host g.D.Client.meaning g.D.Within.place g.D.Within.part in
+    let l = lies h o in let n = counters_in h o in let s = c.args.state.now in let w = c.args.writer.now in
+    let fl = base_of (inner h o) in let client = (inner h o).config.client in let fi = first h o in let opens = g.O.Opens.opens in
+    let p = r.is_writer in
+    let key : ℕ = c.args.key in let value : ℕ = c.args.value in
+    subst (λ (z : Plan). IsMade h o p (set_reply l p z) (SetSteps l p key value z) opens w c.add_reused.result c.add_reused.new.writer c.add_reused.new.state) (sym c.in-Reuse.is) (c.add_reused.ensures.made r (set_is l p r.idles key value (Reuse c.in-Reuse.at) (is ∙ c.in-Reuse.is) opens c.requires.name))
+
+pub value_at-was-requires : goal.value_at-was-requires
+value_at-was-requires g c =
+    let o = c.args.domain.now.origin in
+    let h = host g.D.Client.meaning g.D.Within.place g.D.Within.part in
+    let l = lies h o in let n = counters_in h o in let s = c.args.state.now in let w = c.args.writer.now in
+    let fl = base_of (inner h o) in let client = (inner h o).config.client in let fi = first h o in let opens = g.O.Opens.opens in
+    let r = c.requires.due.0 in let p = r.is_writer in
+    record { slot = item_in n s r.reflects.mirrors.shape c.in-Stand.at 3 (subst (IsIn (2 ^ log_of s.root)) c.in-Stand.is c.requires.inside) (omega arith) }
+
+pub put_word-requires-clause-due : goal.put_word-requires-clause-due
+put_word-requires-clause-due g c =
+    let o = c.args.domain.now.origin in
+    let h = host g.D.Client.meaning g.D.Within.place g.D.Within.part in
+    let l = lies h o in let n = counters_in h o in let s = c.args.state.now in let w = c.args.writer.now in
+    let fl = base_of (inner h o) in let client = (inner h o).config.client in let fi = first h o in let opens = g.O.Opens.opens in
+    let r = c.requires.due.0 in let p = r.is_writer in
+    let key : ℕ = c.args.key in let value : ℕ = c.args.value in
+    may_stand h o w w s s r opens key value c.in-Stand.at (subst (IsIn (2 ^ log_of s.root)) c.in-Stand.is c.requires.inside) (set_is l p r.idles key value (Stand c.in-Stand.at) (c.requires.due.1 ∙ c.in-Stand.is) opens c.requires.name) (subst (HasStates (view_of s.words.items)) c.in-Stand.is c.requires.states)
+
+pub returns-in-Stand-clause-made : goal.returns-in-Stand-clause-made
+returns-in-Stand-clause-made g c r is =
+    let o = c.args.domain.now.origin in
+    let h = host g.D.Client.meaning g.D.Within.place g.D.Within.part in
+    let l = lies h o in let n = counters_in h o in let s = c.args.state.now in let w = c.args.writer.now in
+    let fl = base_of (inner h o) in let client = (inner h o).config.client in let fi = first h o in let opens = g.O.Opens.opens in
+    let p = r.is_writer in
+    let key : ℕ = c.args.key in let value : ℕ = c.args.value in
+    let few = (subst (IsIn (2 ^ log_of s.root)) c.in-Stand.is c.requires.inside) in let full = (subst (HasStates (view_of s.words.items)) c.in-Stand.is c.requires.states) in
+    subst (λ (z : Plan). IsMade h o p (set_reply l p z) (SetSteps l p key value z) opens w (Was c.value_at-was.result) c.put_word.new.writer c.put_word.new.state) (sym c.in-Stand.is)
+    (made_stand h o w c.put_word.new.writer s c.put_word.new.state r opens key value c.in-Stand.at few (set_is l p r.idles key value (Stand c.in-Stand.at) (is ∙ c.in-Stand.is) opens c.requires.name) full _ _ (ap Was (value_is h o w w s s r opens c.in-Stand.at few full c.value_at-was.result c.value_at-was.ensures)) c.put_word.ensures.step c.put_word.ensures.state)
+
+pub value_at-was-requires-in-Move : goal.value_at-was-requires-in-Move
+value_at-was-requires-in-Move g c =
+    let o = c.args.domain.now.origin in
+    let h = host g.D.Client.meaning g.D.Within.place g.D.Within.part in
+    let l = lies h o in let n = counters_in h o in let s = c.args.state.now in let w = c.args.writer.now in
+    let fl = base_of (inner h o) in let client = (inner h o).config.client in let fi = first h o in let opens = g.O.Opens.opens in
+    let r = c.requires.due.0 in let p = r.is_writer in
+    record { slot = item_in n s r.reflects.mirrors.shape c.in-Move.from 3 (subst (IsIn (2 ^ log_of s.root)) c.in-Move.is c.requires.inside).1 (omega arith) }
+
+pub move_key-requires-clause-due : goal.move_key-requires-clause-due
+move_key-requires-clause-due g c =
+    let o = c.args.domain.now.origin in
+    let h = host g.D.Client.meaning g.D.Within.place g.D.Within.part in
+    let l = lies h o in let n = counters_in h o in let s = c.args.state.now in let w = c.args.writer.now in
+    let fl = base_of (inner h o) in let client = (inner h o).config.client in let fi = first h o in let opens = g.O.Opens.opens in
+    let r = c.requires.due.0 in let p = r.is_writer in
+    let key : ℕ = c.args.key in let value : ℕ = c.args.value in
+    let few = (subst (IsIn (2 ^ log_of s.root)) c.in-Move.is c.requires.inside) in let full = (subst (HasStates (view_of s.words.items)) c.in-Move.is c.requires.states) in
+    may_move h o w w s s r opens key value c.in-Move.to c.in-Move.from few.0 few.1 (set_is l p r.idles key value (Move c.in-Move.to c.in-Move.from) (c.requires.due.1 ∙ c.in-Move.is) opens c.requires.name) full.0 full.1
+
+pub returns-in-Move-clause-made : goal.returns-in-Move-clause-made
+returns-in-Move-clause-made g c r is =
+    let o = c.args.domain.now.origin in
+    let h = host g.D.Client.meaning g.D.Within.place g.D.Within.part in
+    let l = lies h o in let n = counters_in h o in let s = c.args.state.now in let w = c.args.writer.now in
+    let fl = base_of (inner h o) in let client = (inner h o).config.client in let fi = first h o in let opens = g.O.Opens.opens in
+    let p = r.is_writer in
+    let key : ℕ = c.args.key in let value : ℕ = c.args.value in
+    let few = (subst (IsIn (2 ^ log_of s.root)) c.in-Move.is c.requires.inside) in let full = (subst (HasStates (view_of s.words.items)) c.in-Move.is c.requires.states) in
+    subst (λ (z : Plan). IsMade h o p (set_reply l p z) (SetSteps l p key value z) opens w (Was c.value_at-was-in-Move.result) c.move_key.new.writer c.move_key.new.state) (sym c.in-Move.is)
+    (made_move h o w c.move_key.new.writer s c.move_key.new.state r opens key value c.in-Move.to c.in-Move.from few.0 few.1 (set_is l p r.idles key value (Move c.in-Move.to c.in-Move.from) (is ∙ c.in-Move.is) opens c.requires.name) full.0 full.1 _ _ (ap Was (value_is h o w w s s r opens c.in-Move.from few.1 full.1 c.value_at-was-in-Move.result c.value_at-was-in-Move.ensures)) c.move_key.ensures.steps c.move_key.ensures.state)

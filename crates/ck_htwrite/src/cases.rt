@@ -1,0 +1,232 @@
+//! Which case an update is.
+ghost use Rattle.std.specs.Prelude.{◌≡◌, ◌+◌, ◌*◌, ◌^◌, ◌<◌, ◌≤◌, nat_le, [], ◌∷◌, length, MatchResult, IfErr};
+ghost use Rattle.ck_run.specs.Tokens.{table};
+ghost use Rattle.ck_slots.specs.Counting.{rebuilt_log};
+ghost use Rattle.ck_htplan.specs.Region.{view_of};
+ghost use Rattle.ck_htlaw.specs.Calls.{set as setting, put as putting, remove as removing};
+ghost use Rattle.ck_htlaw.specs.Host.{host, lies};
+ghost use Rattle.ck_htlaw.specs.Stages.{empty, reuse as reusing};
+ghost use Rattle.ck_htlaw.specs.Layout.{log_of};
+ghost use Rattle.ck_htlaw.specs.Table.{WriterState};
+ghost use Rattle.ck_htlaw.specs.Actions.{added, plan_now, set_reply, put_reply, remove_reply};
+ghost use Rattle.ck_htwrite.specs.State.{Reflects, IsReady, next_count};
+ghost use Rattle.ck_htwrite.specs.Updates.{IsIn, HasStates, IsAdding, IsNeeded, IsMade, InsertSteps, ReuseSteps, SetSteps, PutSteps, RemoveSteps};
+ghost use Rattle.ck_htwrite.specs.Writes.{counters_in};
+
+use crate::state::{HtState, Need};
+use crate::updates::{VALUE, delete, insert, move_key, reuse};
+use crate::writes::{ask_root, put_word};
+use ck_epoch::{Domain, Within, Writer};
+use ck_history::{Key, Reply};
+use ck_htlaw::HtClient;
+use ck_htplan::{Plan, high_word, low_word, plan};
+use ck_probe::key_code;
+use ck_run::Opens;
+
+// The most pairs of a table.
+const MOST: u64 = 262_144;
+
+// How an update finds its key.
+pub(crate) fn plan_for<D: Within<HtClient>>(domain: &Domain<D>, state: &HtState, key: Key) -> Plan
+    requires lists { (p : WriterState) × Reflects (counters_in (host D.meaning D.place D.part) domain.now.origin) (lies (host D.meaning D.place D.part) domain.now.origin) p state.now }
+    ensures inside { IsIn (2 ^ log_of state.now.root) result }
+    ensures states { HasStates (view_of state.now.words.items) result }
+    ensures plan { (p : WriterState) → Reflects (counters_in (host D.meaning D.place D.part) domain.now.origin) (lies (host D.meaning D.place D.part) domain.now.origin) p state.now → plan_now (lies (host D.meaning D.place D.part) domain.now.origin) p key ≡ result }
+{
+    let hash = key_code(low_word(key), high_word(key), domain.client().inner().seed);
+    plan(&state.words, state.root % 32, hash, key)
+}
+
+// The value of the slot `at`, as the lists have it.
+fn value_at(state: &HtState, at: u64) -> u64
+    requires slot { 4 * at + 3 < length state.now.words.items }
+    ensures { result ≡ (view_of state.now.words.items).value at }
+{
+    state.words[(4 * at + VALUE) as usize]
+}
+
+// The piece that a rebuild for a fresh key takes: of twice as many slots where more than half of them would be full.
+fn need_for(state: &HtState) -> Need
+    requires log { log_of state.now.root ≤ 19 }
+    requires keys { state.now.keys ≤ 524288 }
+    ensures shelf { result.shelf ≡ 0 }
+    ensures log { result.log ≡ rebuilt_log (log_of state.now.root) state.now.keys + 2 }
+{
+    let log = state.root % 32;
+    let grows = 2 * (state.keys + 1) > 1 << log;
+    Need {
+        shelf: 0,
+        log: if grows { log + 3 } else { log + 2 },
+    }
+}
+
+// Whether a fresh key may take an empty slot as the map is: at most three quarters of the slots are in use then.
+fn is_roomy(state: &HtState) -> bool
+    requires log { log_of state.now.root ≤ 19 }
+    requires keys { state.now.keys ≤ 524288 }
+    requires tombstones { state.now.tombstones ≤ 524288 }
+    ensures { result ≡ nat_le (4 * (state.now.keys + state.now.tombstones + 1)) (3 * 2 ^ log_of state.now.root) }
+{
+    4 * (state.keys + state.tombstones + 1) <= 3 * (1 << (state.root % 32))
+}
+
+// A fresh key goes into an empty slot, if there is room and no rebuild is due.
+pub(crate) fn add_empty<D: Within<HtClient>, F, O: Opens>(
+    domain: &Domain<D>,
+    writer: &mut Writer<D, F>,
+    state: &mut HtState,
+    at: u64,
+    key: Key,
+    value: u64,
+) -> Result<Reply, Need>
+    requires table { table writer.old.token ≡ domain.now }
+    requires slot { at < 2 ^ log_of state.old.root }
+    requires was { (view_of state.old.words.items).state at ≡ 0 }
+    requires due { (r : IsReady (host D.meaning D.place D.part) domain.now.origin writer.old.token state.old) × IsAdding (lies (host D.meaning D.place D.part) domain.now.origin) r.is_writer O.opens empty (record { key = key; number = value; to = at }) }
+    ensures made { (r : IsReady (host D.meaning D.place D.part) domain.now.origin writer.old.token state.old) → IsAdding (lies (host D.meaning D.place D.part) domain.now.origin) r.is_writer O.opens empty (record { key = key; number = value; to = at }) → MatchResult result (λ reply. IsMade (host D.meaning D.place D.part) domain.now.origin r.is_writer (added (lies (host D.meaning D.place D.part) domain.now.origin) r.is_writer) (InsertSteps (lies (host D.meaning D.place D.part) domain.now.origin) r.is_writer key value at) O.opens writer.old reply writer.new state.new) (λ need. IsNeeded (lies (host D.meaning D.place D.part) domain.now.origin) r.is_writer need) }
+    ensures same { IfErr result (λ need. (writer.new ≡ writer.old) × (state.new ≡ state.old)) }
+    ensures kept { (state.new.root ≡ state.old.root) × (state.new.arena ≡ state.old.arena) }
+{
+    if state.keys >= MOST {
+        ask_root::<D, F, O>(domain, writer);
+        return Ok(Reply::Full);
+    }
+    if !is_roomy(state) {
+        return Err(need_for(state));
+    }
+    insert::<D, F, O>(domain, writer, state, at, key, value);
+    Ok(Reply::Fresh)
+}
+
+// A fresh key takes a tombstone, if there is room.
+pub(crate) fn add_reused<D: Within<HtClient>, F, O: Opens>(
+    domain: &Domain<D>,
+    writer: &mut Writer<D, F>,
+    state: &mut HtState,
+    at: u64,
+    key: Key,
+    value: u64,
+) -> Reply
+    requires table { table writer.old.token ≡ domain.now }
+    requires slot { at < 2 ^ log_of state.old.root }
+    requires was { (view_of state.old.words.items).state at ≡ 2 }
+    requires small { next_count (counters_in (host D.meaning D.place D.part) domain.now.origin) state.old < 2 ^ 62 }
+    requires due { (r : IsReady (host D.meaning D.place D.part) domain.now.origin writer.old.token state.old) × IsAdding (lies (host D.meaning D.place D.part) domain.now.origin) r.is_writer O.opens reusing (record { key = key; number = value; to = at }) }
+    ensures made { (r : IsReady (host D.meaning D.place D.part) domain.now.origin writer.old.token state.old) → IsAdding (lies (host D.meaning D.place D.part) domain.now.origin) r.is_writer O.opens reusing (record { key = key; number = value; to = at }) → IsMade (host D.meaning D.place D.part) domain.now.origin r.is_writer (added (lies (host D.meaning D.place D.part) domain.now.origin) r.is_writer) (ReuseSteps (lies (host D.meaning D.place D.part) domain.now.origin) r.is_writer key value at) O.opens writer.old result writer.new state.new }
+    ensures kept { (state.new.root ≡ state.old.root) × (state.new.arena ≡ state.old.arena) }
+{
+    if state.keys >= MOST {
+        ask_root::<D, F, O>(domain, writer);
+        return Reply::Full;
+    }
+    reuse::<D, F, O>(domain, writer, state, at, key, value);
+    Reply::Fresh
+}
+
+// `set` by its plan.
+pub(crate) fn set_by<D: Within<HtClient>, F, O: Opens>(
+    domain: &Domain<D>,
+    writer: &mut Writer<D, F>,
+    state: &mut HtState,
+    plan: Plan,
+    key: Key,
+    value: u64,
+) -> Result<Reply, Need>
+    requires table { table writer.old.token ≡ domain.now }
+    requires name { O.opens ≡ setting ∷ key ∷ value ∷ [] }
+    requires inside { IsIn (2 ^ log_of state.old.root) plan }
+    requires states { HasStates (view_of state.old.words.items) plan }
+    requires small { next_count (counters_in (host D.meaning D.place D.part) domain.now.origin) state.old < 2 ^ 62 }
+    requires due { (r : IsReady (host D.meaning D.place D.part) domain.now.origin writer.old.token state.old) × (plan_now (lies (host D.meaning D.place D.part) domain.now.origin) r.is_writer key ≡ plan) }
+    ensures made { (r : IsReady (host D.meaning D.place D.part) domain.now.origin writer.old.token state.old) → plan_now (lies (host D.meaning D.place D.part) domain.now.origin) r.is_writer key ≡ plan → MatchResult result (λ reply. IsMade (host D.meaning D.place D.part) domain.now.origin r.is_writer (set_reply (lies (host D.meaning D.place D.part) domain.now.origin) r.is_writer plan) (SetSteps (lies (host D.meaning D.place D.part) domain.now.origin) r.is_writer key value plan) O.opens writer.old reply writer.new state.new) (λ need. IsNeeded (lies (host D.meaning D.place D.part) domain.now.origin) r.is_writer need) }
+    ensures same { IfErr result (λ need. (writer.new ≡ writer.old) × (state.new ≡ state.old)) }
+    ensures kept { (state.new.root ≡ state.old.root) × (state.new.arena ≡ state.old.arena) }
+{
+    match plan {
+        Plan::Empty { at } => add_empty::<D, F, O>(domain, writer, state, at, key, value),
+        Plan::Reuse { at } => Ok(add_reused::<D, F, O>(domain, writer, state, at, key, value)),
+        Plan::Stand { at } => {
+            let was = value_at(state, at);
+            put_word::<D, F, O>(domain, writer, state, at, VALUE, value);
+            Ok(Reply::Was(was))
+        }
+        Plan::Move { to, from } => {
+            let was = value_at(state, from);
+            move_key::<D, F, O>(domain, writer, state, to, from, key, value);
+            Ok(Reply::Was(was))
+        }
+    }
+}
+
+// `put` by its plan. A key that is present keeps its value, also where a tombstone stands before it.
+pub(crate) fn put_by<D: Within<HtClient>, F, O: Opens>(
+    domain: &Domain<D>,
+    writer: &mut Writer<D, F>,
+    state: &mut HtState,
+    plan: Plan,
+    key: Key,
+    value: u64,
+) -> Result<Reply, Need>
+    requires table { table writer.old.token ≡ domain.now }
+    requires name { O.opens ≡ putting ∷ key ∷ value ∷ [] }
+    requires inside { IsIn (2 ^ log_of state.old.root) plan }
+    requires states { HasStates (view_of state.old.words.items) plan }
+    requires small { next_count (counters_in (host D.meaning D.place D.part) domain.now.origin) state.old < 2 ^ 62 }
+    requires due { (r : IsReady (host D.meaning D.place D.part) domain.now.origin writer.old.token state.old) × (plan_now (lies (host D.meaning D.place D.part) domain.now.origin) r.is_writer key ≡ plan) }
+    ensures made { (r : IsReady (host D.meaning D.place D.part) domain.now.origin writer.old.token state.old) → plan_now (lies (host D.meaning D.place D.part) domain.now.origin) r.is_writer key ≡ plan → MatchResult result (λ reply. IsMade (host D.meaning D.place D.part) domain.now.origin r.is_writer (put_reply (lies (host D.meaning D.place D.part) domain.now.origin) r.is_writer plan) (PutSteps (lies (host D.meaning D.place D.part) domain.now.origin) r.is_writer key value plan) O.opens writer.old reply writer.new state.new) (λ need. IsNeeded (lies (host D.meaning D.place D.part) domain.now.origin) r.is_writer need) }
+    ensures same { IfErr result (λ need. (writer.new ≡ writer.old) × (state.new ≡ state.old)) }
+    ensures kept { (state.new.root ≡ state.old.root) × (state.new.arena ≡ state.old.arena) }
+{
+    match plan {
+        Plan::Empty { at } => add_empty::<D, F, O>(domain, writer, state, at, key, value),
+        Plan::Reuse { at } => Ok(add_reused::<D, F, O>(domain, writer, state, at, key, value)),
+        Plan::Stand { at } => {
+            ask_root::<D, F, O>(domain, writer);
+            Ok(Reply::Has(value_at(state, at)))
+        }
+        Plan::Move { from, .. } => {
+            ask_root::<D, F, O>(domain, writer);
+            Ok(Reply::Has(value_at(state, from)))
+        }
+    }
+}
+
+// `remove` by its plan.
+pub(crate) fn remove_by<D: Within<HtClient>, F, O: Opens>(
+    domain: &Domain<D>,
+    writer: &mut Writer<D, F>,
+    state: &mut HtState,
+    plan: Plan,
+    key: Key,
+) -> Reply
+    requires table { table writer.old.token ≡ domain.now }
+    requires name { O.opens ≡ removing ∷ key ∷ [] }
+    requires inside { IsIn (2 ^ log_of state.old.root) plan }
+    requires states { HasStates (view_of state.old.words.items) plan }
+    requires small { next_count (counters_in (host D.meaning D.place D.part) domain.now.origin) state.old < 2 ^ 62 }
+    requires due { (r : IsReady (host D.meaning D.place D.part) domain.now.origin writer.old.token state.old) × (plan_now (lies (host D.meaning D.place D.part) domain.now.origin) r.is_writer key ≡ plan) }
+    ensures made { (r : IsReady (host D.meaning D.place D.part) domain.now.origin writer.old.token state.old) → plan_now (lies (host D.meaning D.place D.part) domain.now.origin) r.is_writer key ≡ plan → IsMade (host D.meaning D.place D.part) domain.now.origin r.is_writer (remove_reply (lies (host D.meaning D.place D.part) domain.now.origin) r.is_writer plan) (RemoveSteps (lies (host D.meaning D.place D.part) domain.now.origin) r.is_writer plan) O.opens writer.old result writer.new state.new }
+    ensures kept { (state.new.root ≡ state.old.root) × (state.new.arena ≡ state.old.arena) }
+{
+    let _key = key;
+    match plan {
+        Plan::Stand { at } => {
+            let was = value_at(state, at);
+            delete::<D, F, O>(domain, writer, state, at);
+            Reply::Was(was)
+        }
+        Plan::Move { from, .. } => {
+            let was = value_at(state, from);
+            delete::<D, F, O>(domain, writer, state, from);
+            Reply::Was(was)
+        }
+        Plan::Empty { .. } => {
+            ask_root::<D, F, O>(domain, writer);
+            Reply::Missing
+        }
+        Plan::Reuse { .. } => {
+            ask_root::<D, F, O>(domain, writer);
+            Reply::Missing
+        }
+    }
+}
