@@ -1,0 +1,10 @@
+mod Members
+mod Words
+pub mod Linked
+mod Writing
+mod Holding
+mod Collecting
+mod Reading
+mod Answering
+pub mod LawHolds
+pub mod Reaching
