@@ -1,5 +1,5 @@
-mod Members
-mod Words
+pub mod Members
+pub mod Words
 pub mod Linked
 mod Writing
 mod Holding
@@ -8,3 +8,4 @@ mod Reading
 mod Answering
 pub mod LawHolds
 pub mod Reaching
+pub mod Tokens

@@ -10,6 +10,7 @@ use Rattle.ck_history.specs.declared.edit.Edit.TheVariants.{Add, Drop, Commit}
 use Rattle.ck_history.specs.declared.edit.EditReply.{EditReply}
 use Rattle.ck_history.specs.declared.edit.EditReply.TheVariants.{Added, Full, Dropped, Missing}
 use Rattle.ck_history.specs.Lists.{ListState, add_member, drop_member, list_step, empty_lists, lists_after_from}
+use Rattle.ck_arraylaw.specs.declared.client.TheConstants.{LEAST_LOG}
 use Rattle.ck_arraylaw.specs.Layout.{log_from, log_for}
 
 pub after-append : (s : ListState) (es fs : List Edit) → lists_after_from s (es ++ fs) ≡ lists_after_from (lists_after_from s es) fs
@@ -61,4 +62,4 @@ room_from (suc more) l n h = go (nat_lt n (2 ^ l)) refl (room_from more (suc l) 
     go false e later = later
 
 pub room_for : (n : ℕ) → n ≤ MOST_MEMBERS → n < 2 ^ log_for n
-room_for n few = room_from 10 3 n (omega arith)
+room_for n few = room_from 10 LEAST_LOG n (omega arith)

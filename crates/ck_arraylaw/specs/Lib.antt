@@ -7,3 +7,4 @@ pub mod Regions
 pub mod Law
 pub mod Reached
 pub mod Laws
+pub mod Known
