@@ -1,0 +1,4 @@
+//! The calls of an array with one writer and many readers.
+#![tactic(auto)]
+
+pub mod part;
