@@ -27,7 +27,8 @@ use Rattle.ck_report.specs.declared.put.PutError.TheVariants.{Failed}
 use Rattle.ck_report.specs.declared.put.PutError.TheVariants as put
 use Rattle.ck_io.specs.Sink.{AppendsPrefix}
 use Rattle.ck_lookup.specs.Causes.{AreSaid}
-use Rattle.ck_lookup.specs.Running.{asked_of_files, MayBegin, IsTextOf, HasPut}
+use Rattle.ck_report.specs.Pairing.{asked_of_files}
+use Rattle.ck_lookup.specs.Running.{MayBegin, IsTextOf, HasPut}
 use Rattle.ck_lookup.proofs.Asking.{files_as}
 use Rattle.ck_lookup.proofs.Counting.{job_short}
 
