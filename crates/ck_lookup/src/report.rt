@@ -2,7 +2,7 @@ ghost use Rattle.std.specs.Prelude.{◌≡◌, ◌∷◌, List, ℕ, IfOk, IfErr
 ghost use Rattle.ck_io.specs.Faults.{NeverFall};
 ghost use Rattle.ck_io.specs.Sink.{appended};
 ghost use Rattle.ck_report.specs.Streaming.{IsPutCause};
-ghost use Rattle.ck_pool.specs.Snapshots.{job_script};
+ghost use Rattle.ck_pool.specs.Results.{job_script};
 ghost use Rattle.ck_lookup.specs.Causes.{AreSaid};
 ghost use Rattle.ck_lookup.specs.Running.{AreRunnable, IsRefusedScript, IsRefusedRun, MayBegin, IsTextOf, HasPut};
 
