@@ -1,7 +1,5 @@
 -- The map of the pairs that stand in the slots below a number.
-use Rattle.std.proofs.Common.{◌≡◌, ◌≢◌, ℕ, zero, suc, ◌+◌, ◌-◌, ◌<◌, ◌≤◌, ◌⊎◌, ⊎_elim, refl, sym, ap, ◌∙◌, subst, arith, Bool, true, false, cond, ◌==◌, ◌&&◌, eq-eqb, ne_eqb}
-use mathlib.Core.Logic.{dite}
-use native.Mathlib.Decide.{ℕ_discrete}
+use Rattle.std.proofs.Common.{◌≡◌, ◌≢◌, ℕ, zero, suc, ◌+◌, ◌-◌, ◌<◌, ◌≤◌, ◌⊎◌, ⊎_elim, refl, sym, ap, ◌∙◌, subst, arith, cond}
 use Rattle.ck_slots.specs.Slots.{Order, IsOrder, SlotsView, Holds}
 use Rattle.ck_slots.proofs.Slots.{tested}
 use Rattle.ck_htlaw.specs.Stages.{idle, Maps, IsMap, IsStep, parts, NoneFull}
