@@ -1,5 +1,5 @@
 -- The copy of a region's words has the states of all its slots and the words of the full ones: what of it plans and counts is the same.
-use Rattle.std.proofs.Common.{◌≡◌, ◌≢◌, ℕ, zero, suc, ◌+◌, ◌*◌, ◌^◌, ◌<◌, ◌≤◌, Bool, true, false, cond, ◌==◌, ◌&&◌, eq-eqb, ne_eqb, List, slice_index, refl, sym, ap, ◌∙◌, subst, arith}
+use Rattle.std.proofs.Common.{◌≡◌, ◌≢◌, ℕ, zero, suc, ◌+◌, ◌*◌, ◌^◌, ◌<◌, Bool, cond, ◌==◌, ◌&&◌, ne_eqb, List, slice_index, refl, sym, ap, ◌∙◌, subst, arith}
 use Rattle.std.proofs.lemmas.Bool.{lt-ltb}
 use Rattle.std.specs.Prelude.{Some}
 use mathlib.Core.Logic.{dite}
@@ -7,7 +7,6 @@ use native.Mathlib.Decide.{ℕ_discrete}
 use Rattle.ck_slots.specs.Slots.{Order, IsOrder, SlotsView, Holds}
 use Rattle.ck_slots.specs.Keeping.{holds_test}
 use Rattle.ck_slots.specs.Counting.{count as how_many, used}
-use Rattle.ck_htplan.specs.declared.cases.Plan.{Plan}
 use Rattle.ck_htplan.specs.Planning.{fresh_plan, met_plan, first_tombstone, walk, plan_of}
 use Rattle.ck_htplan.specs.Region.{order_of, view_of}
 use Rattle.ck_htplan.proofs.Orders.{order_is}
@@ -69,7 +68,7 @@ module _ (o : Order) (v v' : SlotsView) (same : Agree o.slots v v') where
       let e = same.state s few in
       let t = test_agree k s few in
       let later : walk o v k n (suc i) (cond (v.state s == 2) (first_tombstone tomb s) tomb) ≡ walk o v' k n (suc i) (cond (v'.state s == 2) (first_tombstone tomb s) tomb)
-          = ap (λ (x : ℕ). walk o v k n (suc i) (cond (x == 2) (first_tombstone tomb s) tomb)) e ∙ walk_agree ok k n (suc i) (cond (v'.state s == 2) (first_tombstone tomb s) tomb) (omega arith) in
+      = ap (λ (x : ℕ). walk o v k n (suc i) (cond (x == 2) (first_tombstone tomb s) tomb)) e ∙ walk_agree ok k n (suc i) (cond (v'.state s == 2) (first_tombstone tomb s) tomb) (omega arith) in
       λ z. cond (e z == 0) (fresh_plan tomb s) (cond (t z) (met_plan tomb s) (later z))
 
   pub plan_agree : IsOrder o → (k : ℕ) → plan_of o v k ≡ plan_of o v' k

@@ -1,17 +1,15 @@
 -- A rebuild begins: the region that is taken is cleared.
-use Rattle.std.proofs.Common.{◌≡◌, ◌≢◌, ℕ, zero, suc, ◌+◌, ◌-◌, ◌*◌, ◌/◌, ◌%◌, ◌^◌, ◌<◌, ◌≤◌, Bool, true, cond, eq-eqb, ne_eqb, List, [], ◌∷◌, map, length, set, length-set, get_or, get_or-set_same, get_or-set_other, refl, sym, ap, ◌∙◌, subst, arith}
+use Rattle.std.proofs.Common.{◌≡◌, ◌≢◌, ℕ, zero, suc, ◌+◌, ◌*◌, ◌^◌, ◌<◌, ◌≤◌, Bool, true, cond, eq-eqb, ne_eqb, List, map, length, set, length-set, get_or, get_or-set_same, get_or-set_other, refl, sym, ap, ◌∙◌, subst, arith}
 use mathlib.Core.Logic.{dite}
 use native.Mathlib.Decide.{ℕ_discrete}
 use Rattle.std.proofs.lemmas.Nat.{pow_pos}
 use Rattle.std.proofs.Math.Nat.{pow-le-pow_right}
-use Rattle.ck_run.specs.declared.account.Step.{Step}
 use Rattle.ck_run.specs.declared.account.Step.TheVariants.{Store}
 use Rattle.ck_run.specs.declared.account.Entry.{Entry}
-use Rattle.ck_run.specs.Run.{entry, further, words_after}
-use Rattle.ck_run.specs.Range.{word_of}
+use Rattle.ck_run.specs.Run.{entry, further}
 use Rattle.ck_run.specs.Machine.{state_after}
 use Rattle.ck_history.specs.declared.log.LogEntry.{LogEntry}
-use Rattle.ck_slots.specs.Counting.{count as how_many, used}
+use Rattle.ck_slots.specs.Counting.{count as how_many}
 use Rattle.ck_slots.proofs.Counts.{used_none, count_else}
 use Rattle.ck_htplan.specs.Region.{view_of}
 use Rattle.ck_htlaw.specs.declared.client.HtClient.{HtClient}
@@ -27,7 +25,7 @@ use Rattle.ck_htlaw.proofs.Tokens.{is_inside}
 use Rattle.ck_htwrite.specs.declared.state.HtState.{HtState}
 use Rattle.ck_htwrite.specs.State.{Reflects}
 use Rattle.ck_htwrite.specs.Writes.{WriterAt, IsNextStep, CanMake, writer_after}
-use Rattle.ck_htwrite.specs.Rebuild.{BeginsRebuildAt, clear_steps, CanHoldAll, IsCopying, CopiesAt}
+use Rattle.ck_htwrite.specs.Rebuild.{BeginsRebuildAt, clear_steps, CanHoldAll, IsCopying}
 use Rattle.ck_htwrite.proofs.Pairs.{lists_still}
 use Rattle.ck_htwrite.proofs.Writing.{goes_on}
 

@@ -1,5 +1,5 @@
 -- The writer's end between two calls.
-use Rattle.std.proofs.Common.{◌≡◌, ℕ, ◌+◌, ◌^◌, ◌<◌, ◌≤◌, List, [], ◌∷◌, length, length-append, refl, sym, ap, ◌∙◌, subst, arith}
+use Rattle.std.proofs.Common.{◌≡◌, ℕ, ◌+◌, ◌^◌, ◌<◌, ◌≤◌, List, [], ◌∷◌, length, length-append, sym, ap, ◌∙◌, subst, arith}
 use Rattle.std.specs.Prelude.{IfErr}
 use Rattle.std.specs.Result.{IsErrAnd}
 use Rattle.std.specs.declared.result.Result.{Result}
@@ -10,8 +10,7 @@ use Rattle.ck_run.specs.Tokens.{origin, number}
 use Rattle.ck_history.specs.declared.log.LogEntry.{LogEntry}
 use Rattle.ck_history.specs.declared.update.Reply.{Reply}
 use Rattle.ck_history.specs.Map.{step}
-use Rattle.ck_slots.specs.Slots.{SlotsView}
-use Rattle.ck_epoch.specs.State.{Origin, Token, Retirement, base_of, state, queue}
+use Rattle.ck_epoch.specs.State.{Origin, Token, base_of, state}
 use Rattle.ck_epoch.specs.Ends.{Writer, IsDomainToken}
 use Rattle.ck_epoch.specs.Within.{IsWithin}
 use Rattle.ck_htplan.specs.Region.{view_of}
@@ -20,7 +19,7 @@ use Rattle.ck_htlaw.specs.Calls.{Opening}
 use Rattle.ck_htlaw.specs.Layout.{log_of}
 use Rattle.ck_htlaw.specs.Table.{Layout, WriterState, writer, view}
 use Rattle.ck_htlaw.specs.Actions.{most, answer_to, slots_now}
-use Rattle.ck_htlaw.specs.Client.{Answers, table}
+use Rattle.ck_htlaw.specs.Client.{table}
 use Rattle.ck_htlaw.specs.Linearized.{map_after}
 use Rattle.ck_htlaw.specs.Known.{knows}
 use Rattle.ck_htwrite.specs.declared.state.HtState.{HtState}

@@ -1,11 +1,12 @@
 -- Steps that go on with a call, and what they leave as it was.
-use Rattle.std.proofs.Common.{◌≡◌, ℕ, List, [], ◌++◌, map, append-nil, refl, sym, ap, subst}
+use Rattle.std.proofs.Common.{◌≡◌, ℕ, ◌+◌, ◌∙◌, List, [], ◌++◌, map, append-nil, refl, sym, ap, subst}
 use Rattle.std.proofs.lemmas.List.{map-append}
 use Rattle.ck_run.specs.declared.account.Step.{Step}
 use Rattle.ck_run.specs.declared.account.Entry.{Entry}
 use Rattle.ck_run.specs.Run.{further}
-use Rattle.ck_run.specs.Tokens.{did, viewing}
-use Rattle.ck_epoch.specs.State.{Origin}
+use Rattle.ck_run.specs.Tokens.{adding, did, viewing}
+use Rattle.ck_run.proofs.Moments.{adding-append}
+use Rattle.ck_epoch.specs.State.{Origin, Token}
 use Rattle.ck_epoch.specs.Ends.{Writer, IsDomainToken}
 use Rattle.ck_htlaw.specs.Host.{Host}
 use Rattle.ck_htwrite.specs.declared.state.HtState.{HtState}
@@ -21,6 +22,10 @@ module _ {D F : Type 0} (h : Host D) (o : Origin D) where
   -- some steps, and some more
   pub further_more : (w u v : Writer D F) (ss rs : List Step) → Steps h o w (map further ss) u → Steps h o u (map further rs) v → Steps h o w (map further (ss ++ rs)) v
   further_more w u v ss rs a b = subst (λ (es : List Entry). Steps h o w es v) (sym (map-append further ss rs)) (steps_then h o w u v (map further ss) (map further rs) a b)
+
+-- some steps, and the last ones of a counted call
+pub then_counted : {D F : Type 0} (w u v : Writer D F) (es fs : List Entry) → u ≡ record w { token = adding w.token es } → v ≡ record u { token = adding u.token fs; calls = u.calls + 1 } → v ≡ record w { token = adding w.token (es ++ fs); calls = w.calls + 1 }
+then_counted {D} {F} w u v es fs a b = b ∙ (ap (λ (x : Writer D F). record x { token = adding x.token fs; calls = x.calls + 1 }) a ∙ ap (λ (t : Token D). record w { token = t; calls = w.calls + 1 }) (adding-append w.token es fs))
 
 -- the room of a region doesn't depend on the other copy
 pub same_room : (n : ℕ) (s z : HtState) (root : ℕ) → z ≡ record s { spare = z.spare } → CanHoldAll n s root → CanHoldAll n z root

@@ -7,7 +7,7 @@ use Rattle.ck_history.specs.declared.log.LogEntry.{LogEntry}
 use Rattle.ck_history.specs.Map.{step, find, IsMap as Sorted}
 use mathlib.Core.Logic.{dite}
 use native.Mathlib.Decide.{ℕ_discrete}
-use Rattle.ck_slots.specs.Slots.{Order, SlotsView, Holds}
+use Rattle.ck_slots.specs.Slots.{SlotsView, Holds}
 use Rattle.ck_slots.specs.Counting.{count as how_many}
 use Rattle.ck_slots.proofs.Counts.{count_here, count_else}
 use Rattle.ck_htplan.specs.declared.cases.Plan.{Plan}

@@ -2,17 +2,16 @@
 use Rattle.std.proofs.Common.{◌≡◌, ◌≢◌, ℕ, zero, suc, ◌+◌, ◌-◌, ◌*◌, ◌^◌, ◌<◌, ◌≤◌, List, [], ◌∷◌, length, set, length-set, get_or, get_or-set_same, get_or-set_other, refl, sym, ap, ◌∙◌, subst, arith}
 use mathlib.Core.Logic.{dite}
 use native.Mathlib.Decide.{ℕ_discrete}
-use Rattle.std.specs.Vec.{with_item}
 use Rattle.ck_slots.specs.Counting.{count as how_many}
 use Rattle.ck_htplan.specs.Region.{view_of, low_of, high_of}
 use Rattle.ck_htplan.proofs.Orders.{four}
 use Rattle.ck_htlaw.specs.declared.client.HtClient.{HtClient}
 use Rattle.ck_htlaw.specs.Known.{IsRoot}
-use Rattle.ck_htlaw.specs.Layout.{table_words, at_of, log_of, counters_of, layout}
+use Rattle.ck_htlaw.specs.Layout.{table_words, log_of, counters_of, layout}
 use Rattle.ck_htlaw.specs.Table.{Layout}
 use Rattle.ck_htlaw.specs.Client.{orders_of}
 use Rattle.ck_htwrite.specs.declared.state.HtState.{HtState}
-use Rattle.ck_htwrite.specs.State.{IsShaped, Mirrors, counter_at, next_count}
+use Rattle.ck_htwrite.specs.State.{Mirrors, counter_at, next_count}
 use Rattle.ck_htwrite.specs.Updates.{bumped_lists, valued_lists, keyed_lists, buried_lists, keyed}
 use Rattle.ck_htwrite.proofs.Slots.{one_more, one_less, as_many, same_states, counter_low, counter_here}
 use Rattle.ck_htwrite.proofs.Shapes.{shaped_word, shaped_bump, shaped_keyed}

@@ -1,5 +1,5 @@
 -- Where a pair goes in a region that is being built, and what the writer is about to do then.
-use Rattle.std.proofs.Common.{◌≡◌, ◌≢◌, ℕ, zero, suc, ◌+◌, ◌-◌, ◌*◌, ◌/◌, ◌%◌, ◌^◌, ◌<◌, ◌≤◌, Bool, true, false, cond, nat_le, ◌==◌, eq-eqb, ne_eqb, refl, sym, ap, ◌∙◌, subst, arith}
+use Rattle.std.proofs.Common.{◌≡◌, ◌≢◌, ℕ, zero, suc, ◌+◌, ◌-◌, ◌*◌, ◌/◌, ◌%◌, ◌^◌, ◌<◌, ◌≤◌, Bool, true, cond, nat_le, eq-eqb, ne_eqb, refl, sym, ap, ◌∙◌, subst, arith}
 use Rattle.std.specs.Prelude.{Some, None}
 use Rattle.std.proofs.lemmas.Bool.Decides.{nat_tests}
 use Rattle.std.proofs.Math.Nat.{pow-le-pow_right}
@@ -8,7 +8,6 @@ use native.Mathlib.Decide.{ℕ_discrete}
 use Rattle.ck_slots.specs.Slots.{Order, IsOrder, SlotsView, Holds, HasState, IsFirst}
 use Rattle.ck_slots.specs.Counting.{count as how_many, used}
 use Rattle.ck_slots.proofs.Counts.{count_mono, one_empty}
-use Rattle.ck_htplan.specs.declared.cases.Plan.{Plan}
 use Rattle.ck_htplan.specs.declared.cases.Plan.TheVariants.{Empty}
 use Rattle.ck_htplan.specs.Planning.{plan_of}
 use Rattle.ck_htplan.proofs.Walking.{plan_is}

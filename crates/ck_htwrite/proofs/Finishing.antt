@@ -1,26 +1,24 @@
 -- The cases of an update: that the writer may make their steps, and that the call is over after them.
-use Rattle.std.proofs.Common.{◌≡◌, ◌≢◌, ℕ, suc, ◌+◌, ◌-◌, ◌*◌, ◌^◌, ◌<◌, ◌≤◌, le_refl, Bool, true, cond, List, [], ◌∷◌, ◌++◌, map, set, get_or, get_or-set_same, get_or-set_other, refl, sym, ap, ◌∙◌, subst, arith}
-use Rattle.std.specs.Vec.{with_item}
+use Rattle.std.proofs.Common.{◌≡◌, ◌≢◌, ℕ, suc, ◌+◌, ◌-◌, ◌*◌, ◌^◌, ◌<◌, le_refl, Bool, true, cond, List, [], ◌∷◌, ◌++◌, map, set, get_or, get_or-set_other, refl, sym, ap, ◌∙◌, subst, arith}
 use Rattle.ck_run.specs.declared.account.Step.{Step}
 use Rattle.ck_run.specs.declared.account.Step.TheVariants.{Store, Load}
 use Rattle.ck_run.specs.declared.account.Entry.{Entry}
 use Rattle.ck_run.specs.Machine.{state_after}
 use Rattle.ck_run.specs.Run.{entry, further, words_after}
-use Rattle.ck_run.specs.Range.{word_of}
 use Rattle.ck_history.specs.declared.log.LogEntry.{LogEntry}
 use Rattle.ck_htplan.specs.Region.{view_of, low_of, high_of}
 use Rattle.ck_htlaw.specs.declared.client.HtClient.{HtClient}
 use Rattle.ck_htlaw.specs.Calls.{opening_of}
-use Rattle.ck_htlaw.specs.Stages.{Insertion, Target, empty, reuse, move, Stage, idle, after_rebuild, with_bump, with_value, with_low, with_high, twice, before_tombstone, with_tombstone}
-use Rattle.ck_htlaw.specs.Layout.{table_words, log_of, counters_of, layout}
+use Rattle.ck_htlaw.specs.Stages.{Insertion, Target, empty, reuse, move, Stage, idle, after_rebuild, with_bump, with_value, with_low, with_high, before_tombstone, with_tombstone}
+use Rattle.ck_htlaw.specs.Layout.{log_of, counters_of, layout}
 use Rattle.ck_htlaw.specs.Table.{Layout, WriterState, Action, inserts, stands, deletes, nothing, is_table_word, filled, first, second, MayDo, MayWriterStep, GoesOn, count, linearizing, repeated}
 use Rattle.ck_htlaw.specs.Actions.{action, answer_to}
 use Rattle.ck_htlaw.specs.Invariant.{IsTaking, BeginsRebuild}
 use Rattle.ck_htlaw.specs.Client.{Answers, answers_next, due_at, orders_of}
 use Rattle.ck_htlaw.proofs.Tokens.{is_inside}
 use Rattle.ck_htwrite.specs.declared.state.HtState.{HtState}
-use Rattle.ck_htwrite.specs.State.{Mirrors, Reflects, counter_at, next_count}
-use Rattle.ck_htwrite.specs.Updates.{key_steps, keyed, insert_steps, reuse_steps, move_steps, remove_steps, bumped_lists, valued_lists, keyed_lists, buried_lists, inserted_lists, reused_lists, moved_lists, removed_lists, MayBegin, settled, IsAbout, IsOver}
+use Rattle.ck_htwrite.specs.State.{Mirrors, Reflects, next_count}
+use Rattle.ck_htwrite.specs.Updates.{key_steps, keyed, insert_steps, reuse_steps, move_steps, remove_steps, bumped_lists, valued_lists, keyed_lists, buried_lists, inserted_lists, reused_lists, moved_lists, removed_lists, MayBegin, settled, IsOver}
 use Rattle.ck_htwrite.specs.Writes.{WriterAt, CanMake, IsPlainStep, opened, writer_after}
 use Rattle.ck_htwrite.proofs.Slots.{word_in, counter_low}
 use Rattle.ck_htwrite.proofs.Shapes.{bumped_again}

@@ -21,3 +21,5 @@ pub mod Pairs
 pub mod Begun
 pub mod Published
 pub mod Chains
+pub mod Building
+pub mod Rebuilding

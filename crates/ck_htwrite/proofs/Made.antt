@@ -1,5 +1,5 @@
 -- The cases of an update, from the writer between two calls: their steps may be made, and with them the call is made.
-use Rattle.std.proofs.Common.{◌≡◌, ℕ, ◌+◌, ◌*◌, ◌^◌, ◌<◌, Bool, true, false, cond, nat_lt, List, [], ◌∷◌, refl, sym, ap, ◌∙◌, subst, arith}
+use Rattle.std.proofs.Common.{◌≡◌, ℕ, ◌^◌, ◌<◌, Bool, true, false, cond, nat_lt, List, [], ◌∷◌, refl, sym, ap, ◌∙◌, subst}
 use Rattle.std.specs.Prelude.{MatchBool}
 use Rattle.ck_run.specs.declared.account.Step.{Step}
 use Rattle.ck_run.specs.declared.account.Step.TheVariants.{Store, Load}
@@ -8,16 +8,14 @@ use Rattle.ck_run.specs.Machine.{state_after}
 use Rattle.ck_run.specs.Run.{entry}
 use Rattle.ck_history.specs.declared.log.LogEntry.{LogEntry}
 use Rattle.ck_history.specs.declared.update.Reply.{Reply}
-use Rattle.ck_history.specs.declared.update.Reply.TheVariants.{Fresh, Full, Was}
+use Rattle.ck_history.specs.declared.update.Reply.TheVariants.{Fresh, Full}
 use Rattle.ck_epoch.specs.State.{Origin, base_of}
 use Rattle.ck_epoch.specs.Ends.{Writer}
-use Rattle.ck_htplan.specs.declared.cases.Plan.{Plan}
-use Rattle.ck_htplan.specs.declared.cases.Plan.TheVariants.{Empty, Reuse, Stand, Move}
 use Rattle.ck_htplan.specs.Region.{view_of}
 use Rattle.ck_htlaw.specs.declared.client.HtClient.{HtClient}
 use Rattle.ck_htlaw.specs.Host.{Host, first, inner, lies}
 use Rattle.ck_htlaw.specs.Calls.{opening_of}
-use Rattle.ck_htlaw.specs.Stages.{Insertion, Stage, empty, reuse, move, idle}
+use Rattle.ck_htlaw.specs.Stages.{Insertion, Stage, empty, reuse, move}
 use Rattle.ck_htlaw.specs.Layout.{log_of}
 use Rattle.ck_htlaw.specs.Table.{Layout, WriterState, inserts, stands, deletes, nothing}
 use Rattle.ck_htlaw.specs.Actions.{action, added, answer_to, keys_now, most, slots_now}

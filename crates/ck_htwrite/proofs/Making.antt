@@ -1,5 +1,5 @@
 -- Several steps of the writer, one after the other.
-use Rattle.std.proofs.Common.{◌≡◌, ℕ, Bool, true, cond, List, [], ◌∷◌, ◌++◌, sym, ap, ◌∙◌, subst}
+use Rattle.std.proofs.Common.{◌≡◌, Bool, true, cond, List, [], ◌∷◌, ◌++◌, ap, ◌∙◌}
 use Rattle.ck_run.specs.declared.account.Entry.{Entry}
 use Rattle.ck_run.specs.Machine.{state_after}
 use Rattle.ck_run.specs.Tokens.{adding, did}
@@ -13,7 +13,7 @@ use Rattle.ck_htlaw.specs.Actions.{action}
 use Rattle.ck_htlaw.specs.Table.{Layout, WriterState, LocalState, writer, is_table_word, after_own, after_other}
 use Rattle.ck_htlaw.specs.Client.{Answers, answers_next, table_next}
 use Rattle.ck_htlaw.specs.Known.{knows}
-use Rattle.ck_htwrite.specs.Writes.{CanMake, IsPlainStep, MayMake, MayStep, Steps, WriterIs, writer_after}
+use Rattle.ck_htwrite.specs.Writes.{CanMake, MayMake, MayStep, Steps, writer_after}
 
 -- where the writer is after a step on the table's words
 pub own_next : (l : Layout) (p : WriterState) (e : Entry) → is_table_word l e.step ≡ true → table_next l (writer p) e ≡ writer (writer_after l p e)

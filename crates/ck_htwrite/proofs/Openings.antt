@@ -1,5 +1,5 @@
 -- The lists at opening.
-use Rattle.std.proofs.Common.{◌≡◌, ◌≢◌, ℕ, suc, ◌+◌, ◌-◌, ◌*◌, ◌/◌, ◌%◌, ◌^◌, ◌<◌, ◌≤◌, [], length, ap, sym, ◌∙◌, subst, refl, arith, pow-add, mul_comm}
+use Rattle.std.proofs.Common.{◌≡◌, ◌≢◌, ℕ, ◌+◌, ◌-◌, ◌*◌, ◌%◌, ◌^◌, ◌<◌, ◌≤◌, [], length, ap, sym, ◌∙◌, subst, refl, arith, pow-add, mul_comm}
 use Rattle.std.specs.Prelude.{max, vec_capacity}
 use Rattle.std.specs.FinSet as set
 use Rattle.std.proofs.lemmas.List.Elements.{All-nil}

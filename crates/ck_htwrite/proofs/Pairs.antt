@@ -1,5 +1,5 @@
 -- A pair is copied into a region that is being built.
-use Rattle.std.proofs.Common.{◌≡◌, ◌≢◌, ℕ, zero, suc, ◌+◌, ◌-◌, ◌*◌, ◌/◌, ◌%◌, ◌^◌, ◌<◌, ◌≤◌, ◌⊎◌, ⊎_elim, Bool, true, cond, nat_le, List, [], ◌∷◌, map, length, set, length-set, get_or, get_or-set_same, get_or-set_other, refl, sym, ap, ◌∙◌, subst, arith}
+use Rattle.std.proofs.Common.{◌≡◌, ◌≢◌, ℕ, zero, suc, ◌+◌, ◌-◌, ◌*◌, ◌^◌, ◌<◌, ◌≤◌, ⊎_elim, Bool, true, cond, nat_le, List, [], ◌∷◌, map, length, set, length-set, get_or, get_or-set_same, get_or-set_other, refl, sym, ap, ◌∙◌, subst, arith}
 use Rattle.std.specs.Prelude.{Some}
 use mathlib.Core.Logic.{dite}
 use native.Mathlib.Decide.{ℕ_discrete}
@@ -8,10 +8,9 @@ use Rattle.ck_run.specs.declared.account.Entry.{Entry}
 use Rattle.ck_run.specs.Run.{further}
 use Rattle.ck_run.specs.Machine.{state_after}
 use Rattle.ck_history.specs.declared.log.LogEntry.{LogEntry}
-use Rattle.ck_slots.specs.Slots.{Order, IsOrder, SlotsView, Holds, HasState, IsFirst}
+use Rattle.ck_slots.specs.Slots.{IsOrder, SlotsView, Holds, HasState, IsFirst}
 use Rattle.ck_slots.specs.Counting.{count as how_many, used}
 use Rattle.ck_slots.proofs.Counts.{count_here, count_else, count_more, count_mono, used_more}
-use Rattle.ck_htplan.specs.declared.cases.Plan.{Plan}
 use Rattle.ck_htplan.specs.declared.cases.Plan.TheVariants.{Empty}
 use Rattle.ck_htplan.specs.Planning.{plan_of}
 use Rattle.ck_htplan.specs.Region.{view_of}
@@ -21,11 +20,11 @@ use Rattle.ck_htlaw.specs.Stages.{Insertion, empty, idle, copying, with_value, w
 use Rattle.ck_htlaw.specs.Calls.{opening_of}
 use Rattle.ck_htlaw.specs.Layout.{at_of, log_of, counters_of, layout}
 use Rattle.ck_htlaw.specs.Table.{Layout, WriterState, Action, copies, no_action, view, second, is_table_word, MayWriterStep}
-use Rattle.ck_htlaw.specs.Actions.{action, slots_now, key_at, job, to_copy, copies_to, with_another, next_full}
+use Rattle.ck_htlaw.specs.Actions.{action, slots_now, job, to_copy, copies_to, with_another, next_full}
 use Rattle.ck_htlaw.specs.Client.{Answers, answers_next, orders_of, hash_of}
 use Rattle.ck_htlaw.proofs.Tokens.{is_inside}
 use Rattle.ck_htwrite.specs.declared.state.HtState.{HtState}
-use Rattle.ck_htwrite.specs.State.{IsShaped, Mirrors, Reflects}
+use Rattle.ck_htwrite.specs.State.{Reflects}
 use Rattle.ck_htwrite.specs.Writes.{WriterAt, CanMake, writer_after}
 use Rattle.ck_htwrite.specs.Rebuild.{pair_steps, paired_lists, CanHoldAll, IsFrom, IsCopying, CopiesAt}
 use Rattle.ck_htwrite.proofs.Agree.{Agree, agree_now, in_column, plan_agree, used_agree, next_agree}

@@ -1,6 +1,5 @@
 -- The plan of an update on the writer's lists, and which case it is.
-use Rattle.std.proofs.Common.{◌≡◌, ℕ, ◌+◌, ◌*◌, ◌^◌, ◌<◌, ◌≤◌, Bool, true, false, cond, nat_lt, nat_le, List, [], ◌∷◌, refl, sym, ap, ◌∙◌, subst, arith}
-use Rattle.std.specs.Prelude.{MatchBool}
+use Rattle.std.proofs.Common.{◌≡◌, ℕ, ◌+◌, ◌*◌, ◌^◌, ◌<◌, ◌≤◌, Bool, true, false, cond, nat_lt, nat_le, List, [], ◌∷◌, sym, ap, ◌∙◌, subst, arith}
 use Rattle.std.proofs.lemmas.Bool.Decides.{nat_tests}
 use Rattle.std.proofs.Math.Nat.{pow-le-pow_right}
 use Rattle.ck_run.specs.declared.account.Step.{Step}
@@ -17,7 +16,7 @@ use Rattle.ck_htlaw.specs.declared.client.HtClient.{HtClient}
 use Rattle.ck_htlaw.specs.Calls.{set as setting, put as putting, remove as removing}
 use Rattle.ck_htlaw.specs.Stages.{Insertion, Target, empty, reuse, Stage, idle}
 use Rattle.ck_htlaw.specs.Layout.{log_of, counters_of, layout}
-use Rattle.ck_htlaw.specs.Table.{Layout, WriterState, Action, inserts, nothing, begins_rebuild}
+use Rattle.ck_htlaw.specs.Table.{Layout, WriterState, inserts, nothing, begins_rebuild}
 use Rattle.ck_htlaw.specs.Actions.{most, action, by_stage, goes_in, keys_now, tombstones_now, plan_now, root_at, to_set, to_put, to_remove}
 use Rattle.ck_htlaw.specs.Client.{orders_of, hash_of}
 use Rattle.ck_htwrite.specs.declared.state.HtState.{HtState}

@@ -1,19 +1,18 @@
 -- A rebuilt region is published, and the lists are those of it.
-use Rattle.std.proofs.Common.{◌≡◌, ◌≢◌, ℕ, zero, suc, ◌+◌, ◌-◌, ◌*◌, ◌/◌, ◌%◌, ◌^◌, ◌<◌, ◌≤◌, le_refl, Bool, true, cond, nat_le, List, [], ◌∷◌, length, set, length-set, get_or, get_or-set_other, refl, sym, ap, ◌∙◌, subst, arith}
+use Rattle.std.proofs.Common.{◌≡◌, ◌≢◌, ℕ, suc, ◌+◌, ◌-◌, ◌^◌, ◌≤◌, le_refl, Bool, true, cond, nat_le, List, [], set, length-set, get_or, get_or-set_other, refl, sym, ap, ◌∙◌, subst, arith}
 use Rattle.std.specs.Prelude.{None}
 use Rattle.ck_run.specs.declared.account.Step.TheVariants.{Store}
 use Rattle.ck_run.specs.declared.account.Entry.{Entry}
 use Rattle.ck_run.specs.Run.{further}
 use Rattle.ck_history.specs.declared.log.LogEntry.{LogEntry}
 use Rattle.ck_slots.specs.Slots.{SlotsView}
-use Rattle.ck_slots.specs.Counting.{count as how_many, used}
-use Rattle.ck_slots.proofs.Counts.{count_mono, one_empty}
+use Rattle.ck_slots.proofs.Counts.{one_empty}
 use Rattle.ck_htplan.specs.Region.{view_of}
 use Rattle.ck_htplan.proofs.Orders.{four}
 use Rattle.ck_htlaw.specs.declared.client.HtClient.{HtClient}
 use Rattle.ck_htlaw.specs.Stages.{idle, copying, retiring, retiring_at_end}
-use Rattle.ck_htlaw.specs.Calls.{Opening, tidying, opening_of}
-use Rattle.ck_htlaw.specs.Layout.{at_of, log_of, counters_of, layout}
+use Rattle.ck_htlaw.specs.Calls.{opening_of}
+use Rattle.ck_htlaw.specs.Layout.{log_of, counters_of, layout}
 use Rattle.ck_htlaw.specs.Table.{Layout, WriterState, Action, publishes, tidies, no_action, second, repeated, is_table_word, MayWriterStep}
 use Rattle.ck_htlaw.specs.Actions.{action, slots_now, to_copy, when_copied, next_full}
 use Rattle.ck_htlaw.specs.Client.{Answers, answers_next, orders_of}

@@ -1,5 +1,5 @@
 -- The step by which a replaced region is retired.
-use Rattle.std.proofs.Common.{◌≡◌, ℕ, nat_lt, nat_le, ◌+◌, ◌-◌, ◌*◌, ◌/◌, ◌%◌, ◌<◌, ◌≤◌, le_refl, Bool, true, false, cond, ◌&&◌, inr, List, [], ◌∷◌, ◌++◌, refl, sym, ap, ◌∙◌, subst, arith}
+use Rattle.std.proofs.Common.{◌≡◌, ℕ, nat_lt, nat_le, ◌+◌, ◌-◌, ◌/◌, ◌%◌, ◌<◌, ◌≤◌, le_refl, Bool, true, false, cond, ◌&&◌, inr, List, [], ◌∷◌, ◌++◌, refl, sym, ap, ◌∙◌, subst, arith}
 use Rattle.std.proofs.lemmas.Nat.{pow_pos}
 use Rattle.std.proofs.lemmas.Bool.Decides.{nat_tests}
 use Rattle.ck_run.specs.declared.account.Step.TheVariants.{Load}

@@ -3,7 +3,7 @@ use Rattle.std.proofs.Common.{◌≡◌, ℕ, ◌+◌, ◌*◌, length-set, get_
 use Rattle.std.specs.Vec.{with_item}
 use Rattle.ck_htwrite.specs.declared.state.HtState.{HtState}
 use Rattle.ck_htwrite.specs.State.{IsShaped, counter_at, next_count}
-use Rattle.ck_htwrite.specs.Updates.{bumped_lists, valued_lists, keyed_lists, buried_lists}
+use Rattle.ck_htwrite.specs.Updates.{bumped_lists, keyed_lists}
 use Rattle.ck_htwrite.proofs.Slots.{counter_here}
 
 module _ (n : ℕ) (s : HtState) (m : IsShaped n s) where

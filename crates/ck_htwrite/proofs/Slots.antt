@@ -1,21 +1,17 @@
 -- The writer's lists after a store in a slot, and after a bump.
-use Rattle.std.proofs.Common.{◌≡◌, ◌≢◌, ℕ, zero, suc, ◌+◌, ◌-◌, ◌*◌, ◌/◌, ◌^◌, ◌<◌, ◌≤◌, List, length, set, length-set, get_or, get_or-set_same, get_or-set_other, sym, ap, ◌∙◌, subst, arith}
+use Rattle.std.proofs.Common.{◌≡◌, ◌≢◌, ℕ, zero, suc, ◌+◌, ◌-◌, ◌*◌, ◌/◌, ◌^◌, ◌<◌, ◌≤◌, List, length, set, get_or, get_or-set_same, get_or-set_other, sym, ap, ◌∙◌, arith}
 use Rattle.std.proofs.lemmas.List.{get_or_read}
 use Rattle.std.proofs.lemmas.Nat.{pow_pos}
 use Rattle.std.proofs.Math.Nat.{pow-le-pow_right}
 use mathlib.Core.Logic.{dite}
 use native.Mathlib.Decide.{ℕ_discrete}
-use Rattle.std.specs.Vec.{with_item}
 use Rattle.ck_slots.specs.Counting.{count as how_many}
 use Rattle.ck_slots.proofs.Counts.{count_more, count_kept, count_here, count_else}
 use Rattle.ck_htplan.specs.Region.{view_of}
 use Rattle.ck_htplan.proofs.Orders.{four}
-use Rattle.ck_htlaw.specs.declared.client.HtClient.{HtClient}
-use Rattle.ck_htlaw.specs.Layout.{arena, table_words, at_of, log_of, counters_of, layout}
-use Rattle.ck_htlaw.specs.Table.{Layout}
-use Rattle.ck_htlaw.specs.Client.{orders_of}
+use Rattle.ck_htlaw.specs.Layout.{table_words, log_of}
 use Rattle.ck_htwrite.specs.declared.state.HtState.{HtState}
-use Rattle.ck_htwrite.specs.State.{IsShaped, Mirrors, counter_at, next_count}
+use Rattle.ck_htwrite.specs.State.{IsShaped, counter_at, next_count}
 
 -- no more than all
 pub count_most : (f : ℕ → ℕ) (x n : ℕ) → how_many f x n ≤ n

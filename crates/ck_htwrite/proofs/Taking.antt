@@ -1,16 +1,16 @@
 -- What the writer's arena hands out is free by the account, and what it takes back is free then.
-use Rattle.std.proofs.Common.{◌≡◌, ◌≢◌, ℕ, suc, ◌+◌, ◌-◌, ◌*◌, ◌/◌, ◌%◌, ◌^◌, ◌<◌, ◌≤◌, le_refl, ◌⊎◌, ⊎_elim, inl, inr, List, [], ◌∷◌, ◌++◌, refl, sym, ap, ◌∙◌, subst, pow-add, arith}
+use Rattle.std.proofs.Common.{◌≡◌, ◌≢◌, ℕ, ◌+◌, ◌-◌, ◌*◌, ◌^◌, ◌<◌, ◌≤◌, le_refl, ◌⊎◌, ⊎_elim, inl, inr, List, [], ◌∷◌, ◌++◌, refl, sym, ap, ◌∙◌, subst, pow-add, arith}
 use Rattle.std.specs.Prelude.{All}
 use Rattle.std.proofs.lemmas.Bool.{cases_lt}
 use Rattle.std.proofs.lemmas.Nat.{pow_pos}
 use Rattle.std.proofs.Math.Nat.{pow-le-pow_right}
 use Rattle.std.proofs.lemmas.List.Elements.{All-nil, All-cons, All-head, All-append, All-tail, All-weaker}
-use Rattle.ck_words.specs.Buddies.{Arena, Piece, piece, IsPieceOut, IsFree, IsAlignedIn, HasWordOut, ArePiecesApart, AddsPiece, DropsPiece}
+use Rattle.ck_words.specs.Buddies.{Arena, Piece, piece, IsPieceOut, IsFree, IsAlignedIn, ArePiecesApart, AddsPiece, DropsPiece}
 use Rattle.ck_epoch.specs.declared.item.Item.{Item}
 use Rattle.ck_epoch.specs.declared.item.Retired.{Retired}
 use Rattle.ck_reclaim.specs.Pieces.{AreApart}
 use Rattle.ck_htplan.proofs.Orders.{four}
-use Rattle.ck_htlaw.specs.Layout.{arena, arena_words, table_words, at_of, log_of, region_item, IsTableItem}
+use Rattle.ck_htlaw.specs.Layout.{at_of, log_of, region_item, IsTableItem}
 use Rattle.ck_htlaw.specs.Known.{IsRoot}
 use Rattle.ck_htwrite.specs.Arena.{region_piece, retired_piece, AreOnce, IsArenaOfTable, IsKept, HasNoneFree}
 

@@ -6,26 +6,25 @@ use Rattle.ck_run.specs.declared.account.Account.{Account}
 use Rattle.ck_run.specs.Rule.{unused}
 use Rattle.ck_run.specs.Range.{word_of}
 use Rattle.ck_run.specs.Machine.{state_after, grow}
-use Rattle.ck_run.specs.Tokens.{did, number, origin, adding}
+use Rattle.ck_run.specs.Tokens.{did, number, origin}
 use Rattle.ck_run.proofs.Law.{obeys_append}
 use Rattle.ck_run.proofs.Accounts.{account_grown}
 use Rattle.ck_run.proofs.Moments.{part_follows}
 use Rattle.ck_history.specs.declared.log.LogEntry.{LogEntry}
 use Rattle.ck_epoch.specs.State.{Origin, Token, base_of, state_at}
 use Rattle.ck_epoch.specs.Client.{program}
-use Rattle.ck_epoch.specs.Ends.{Writer, IsDomainToken}
+use Rattle.ck_epoch.specs.Ends.{IsDomainToken}
 use Rattle.ck_epoch.specs.Calls.{MayFollow}
 use Rattle.ck_epoch.specs.Within.{IsWithin}
 use Rattle.ck_htlaw.specs.Host.{Host, first, inner, lies}
-use Rattle.ck_htlaw.specs.Calls.{key_of, opening_of}
-use Rattle.ck_htlaw.specs.Actions.{action, answer_to}
+use Rattle.ck_htlaw.specs.Calls.{key_of}
+use Rattle.ck_htlaw.specs.Actions.{action}
 use Rattle.ck_htlaw.specs.Invariant.{IsTaking}
-use Rattle.ck_htlaw.specs.Stages.{idle, Stage}
 use Rattle.ck_htlaw.specs.Layout.{IsFreeRegion}
 use Rattle.ck_htlaw.specs.Table.{Layout, WriterState, LocalState, writer, is_table_word, after_own, after_other, MayIf}
 use Rattle.ck_htlaw.specs.Client.{Answers, logged, due_at, due_next, answers_next, start, table_next, table_may, local_after, TakesFree, table}
-use Rattle.ck_htlaw.proofs.Tokens.{local_after_all, is_inside, knows_next}
-use Rattle.ck_htwrite.specs.Writes.{counters_in, MayStep, Steps, WriterAt, writer_after}
+use Rattle.ck_htlaw.proofs.Tokens.{local_after_all, is_inside}
+use Rattle.ck_htwrite.specs.Writes.{counters_in, MayStep, WriterAt, writer_after}
 
 module _ {D : Type 0} (h : Host D) (o : Origin D) where
   abbrev l : Layout

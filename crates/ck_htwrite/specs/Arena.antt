@@ -1,5 +1,5 @@
 -- What the writer's arena says of its account: which pieces are out, and why.
-use Rattle.std.specs.Prelude.{◌≡◌, ◌≢◌, ℕ, ◌+◌, ◌-◌, ◌*◌, ◌^◌, List, [], ◌∷◌, ◌++◌, length, drop, All}
+use Rattle.std.specs.Prelude.{◌≡◌, ◌≢◌, ℕ, ◌+◌, ◌-◌, ◌^◌, List, [], ◌∷◌, ◌++◌, length, drop, All}
 use Rattle.ck_words.specs.declared.back.Back.{Back}
 use Rattle.ck_words.specs.Buddies.{Piece, piece, Arena, IsPieceOut, IsAlignedIn, HasWordOut}
 use Rattle.ck_epoch.specs.declared.item.Retired.{Retired}

@@ -12,9 +12,10 @@ use Rattle.ck_reclaim.specs.Pieces.{AreApart}
 use Rattle.ck_history.specs.declared.log.LogEntry.{LogEntry}
 use Rattle.ck_htlaw.specs.Layout.{log_of, region_item}
 use Rattle.ck_htlaw.specs.Known.{IsRoot}
-use Rattle.ck_htlaw.specs.Stages.{idle, copying, NoneFull}
-use Rattle.ck_htlaw.specs.Table.{Layout, WriterState, begins_rebuild}
-use Rattle.ck_htlaw.specs.Actions.{action, root_at}
+use Rattle.ck_htlaw.specs.Calls.{opening_of}
+use Rattle.ck_htlaw.specs.Stages.{Stage, idle, copying, NoneFull}
+use Rattle.ck_htlaw.specs.Table.{Layout, WriterState, begins_rebuild, publishes, tidies}
+use Rattle.ck_htlaw.specs.Actions.{action, root_at, when_copied}
 use Rattle.ck_htlaw.specs.Client.{Answers}
 use Rattle.ck_htwrite.specs.declared.state.HtState.{HtState}
 use Rattle.ck_htwrite.specs.State.{Reflects}
@@ -81,3 +82,17 @@ pub record CopiesAt (n : ℕ) (l : Layout) (a : Answers) (p : WriterState) (call
   pub next : ℕ
   pub at : WriterAt a (record p { stage = copying call root next idle; words = words }) due told
   pub is_copying : IsCopying n l p s words root next i
+
+-- after its rebuild the call goes on, or ends
+abbrev pub GoesOnAfter : Layout → List ℕ → Type 0
+GoesOnAfter l call = (q : WriterState) → when_copied l q (opening_of call) ≡ publishes
+
+abbrev pub EndsAfter : Layout → List ℕ → Type 0
+EndsAfter l call = (q : WriterState) → when_copied l q (opening_of call) ≡ tidies
+
+-- The writer stands at this stage, and these lists have the words of the present region
+pub record Rebuilt (n : ℕ) (l : Layout) (a : Answers) (stage : Stage) (due : LogEntry ℕ) (told : List (LogEntry ℕ)) (s : HtState) : Type 0 where
+  pub is_writer : WriterState
+  pub at : WriterAt a is_writer due told
+  pub stage_is : is_writer.stage ≡ stage
+  pub lists : Reflects n l is_writer s

@@ -4,6 +4,7 @@
 mod calls;
 mod cases;
 mod copies;
+mod growth;
 mod rebuild;
 mod state;
 #[cfg(test)]

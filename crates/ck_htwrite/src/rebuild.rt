@@ -3,14 +3,14 @@ ghost use Rattle.std.specs.Prelude.{◌≡◌, ℕ, ◌+◌, ◌-◌, ◌*◌, �
 ghost use Rattle.ck_run.specs.declared.account.Step.TheVariants.{Load, Store};
 ghost use Rattle.ck_run.specs.Run.{entry, further, handing};
 ghost use Rattle.ck_run.specs.Tokens.{table, adding};
-ghost use Rattle.ck_epoch.specs.State.{state};
+ghost use Rattle.ck_epoch.specs.State.{queue, state};
 ghost use Rattle.ck_epoch.specs.Ends.{IsDomainToken};
 ghost use Rattle.ck_history.specs.declared.log.LogEntry.{LogEntry};
 ghost use Rattle.ck_slots.specs.Slots.{IsFirst, HasState};
 ghost use Rattle.ck_htplan.specs.Region.{order_of, view_of};
 ghost use Rattle.ck_htlaw.specs.Host.{host, lies};
 ghost use Rattle.ck_htlaw.specs.Known.{IsRoot, knows};
-ghost use Rattle.ck_htlaw.specs.Layout.{log_of};
+ghost use Rattle.ck_htlaw.specs.Layout.{log_of, region_item};
 ghost use Rattle.ck_htlaw.specs.Regions.{IsReplaced};
 ghost use Rattle.ck_htlaw.specs.Stages.{idle};
 ghost use Rattle.ck_htlaw.specs.Table.{WriterState, released, released_log};
@@ -115,6 +115,8 @@ pub(crate) fn retire<D: Within<HtClient>, F>(
     } }
     ensures at { (p : WriterState) (due : LogEntry ℕ) (told : List (LogEntry ℕ)) → WriterAt (knows (host D.meaning D.place D.part) domain.now.origin writer.old.token) p due told → IsReplaced p.stage old
         → WriterAt (knows (host D.meaning D.place D.part) domain.now.origin writer.new.token) (record p { stage = released p.stage; log = released_log p.stage p.log }) due (told ++ cond (nat_lt p.log (released_log p.stage p.log)) (due ∷ []) []) }
+    ensures pending { queue (state writer.new.token).pending ≡ queue (state writer.old.token).pending ++ record { item = region_item (D.place domain.now.origin.config.client) old; epoch = (state writer.old.token).epoch } ∷ [] }
+    ensures same { (state writer.new.token).dispatched ≡ (state writer.old.token).dispatched }
     ensures part { IsDomainToken D.meaning writer.new.token }
 {
     let at = domain.client().base() + old / 32;

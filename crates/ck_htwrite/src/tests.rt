@@ -48,13 +48,34 @@ fn replies_are_those_of_a_map(rt: HostRuntime) -> Result<(), Fail> {
     };
     let (domain, mut writer, mut state) = opened(rt.alloc(), client, |item: Item| home(item))?;
     let key = Key::new(1).ok_or("a key")?;
-    assert_eq!(rt; set(&domain, &mut writer, &mut state, key, 10), Ok(Reply::Fresh));
-    assert_eq!(rt; set(&domain, &mut writer, &mut state, key, 11), Ok(Reply::Was(10)));
-    assert_eq!(rt; put(&domain, &mut writer, &mut state, key, 5), Ok(Reply::Has(11)));
-    assert_eq!(rt; remove(&domain, &mut writer, &mut state, key), Reply::Was(11));
-    assert_eq!(rt; remove(&domain, &mut writer, &mut state, key), Reply::Missing);
-    assert_eq!(rt; put(&domain, &mut writer, &mut state, key, 6), Ok(Reply::Fresh));
-    assert_eq!(rt; remove(&domain, &mut writer, &mut state, key), Reply::Was(6));
+    assert_eq!(rt;
+        set(&domain, &mut writer, &mut state, key, 10),
+        Ok(Reply::Fresh)
+    );
+    assert_eq!(rt;
+        set(&domain, &mut writer, &mut state, key, 11),
+        Ok(Reply::Was(10))
+    );
+    assert_eq!(rt;
+        put(&domain, &mut writer, &mut state, key, 5),
+        Ok(Reply::Has(11))
+    );
+    assert_eq!(rt;
+        remove(&domain, &mut writer, &mut state, key),
+        Reply::Was(11)
+    );
+    assert_eq!(rt;
+        remove(&domain, &mut writer, &mut state, key),
+        Reply::Missing
+    );
+    assert_eq!(rt;
+        put(&domain, &mut writer, &mut state, key, 6),
+        Ok(Reply::Fresh)
+    );
+    assert_eq!(rt;
+        remove(&domain, &mut writer, &mut state, key),
+        Reply::Was(6)
+    );
     assert_eq!(rt; writer.tally(), 7);
     Ok(())
 }

@@ -1,17 +1,17 @@
-use Rattle.std.proofs.Common.{◌≡◌, ℕ, ◌+◌, List, [], ◌∷◌, ◌++◌, refl, sym, ap, ◌∙◌, subst, arith}
+use Rattle.std.proofs.Common.{◌≡◌, ℕ, ◌+◌, List, [], ◌∷◌, ◌++◌, sym, ap, ◌∙◌, subst}
 use Rattle.ck_run.specs.declared.account.Step.{Step}
 use Rattle.ck_run.specs.Tokens.{table, adding}
 use Rattle.ck_history.specs.declared.update.Reply.{Reply}
-use Rattle.ck_history.specs.declared.update.Update.TheVariants.{Set, Put, Del}
+use Rattle.ck_history.specs.declared.update.Update.TheVariants.{Put}
 use Rattle.ck_htplan.specs.declared.cases.Plan.{Plan}
 use Rattle.ck_htlaw.specs.Host.{host, lies}
-use Rattle.ck_htlaw.specs.Calls.{opening_of, setting, putting, removing, set, put, remove}
+use Rattle.ck_htlaw.specs.Calls.{opening_of, putting, put}
 use Rattle.ck_htlaw.specs.Table.{WriterState}
-use Rattle.ck_htlaw.specs.Actions.{answer_to, plan_now, set_reply, put_reply, remove_reply}
+use Rattle.ck_htlaw.specs.Actions.{answer_to, plan_now, put_reply}
 use Rattle.ck_htlaw.specs.Known.{knows}
 use Rattle.ck_htwrite.specs.declared.state.Need.{Need}
 use Rattle.ck_htwrite.specs.State.{Ready}
-use Rattle.ck_htwrite.specs.Updates.{SetSteps, PutSteps, RemoveSteps, IsNeeded}
+use Rattle.ck_htwrite.specs.Updates.{PutSteps, IsNeeded}
 use Rattle.ck_htwrite.specs.Writes.{WriterIs, opened}
 use Rattle.ck_htwrite.proofs.Between.{if_err, answers, small, ready_next, same_writer}
 use Rattle.ck_htwrite.proofs.calls.put.Goals as goal

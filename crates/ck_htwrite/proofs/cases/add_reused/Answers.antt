@@ -1,22 +1,10 @@
-use Rattle.std.proofs.Common.{◌≡◌, ℕ, ◌+◌, ◌*◌, ◌^◌, ◌<◌, List, [], ◌∷◌, refl, sym, ap, ◌∙◌, subst, arith}
-use Rattle.std.specs.Prelude.{MatchResult}
-use Rattle.ck_run.specs.declared.account.Step.{Step}
-use Rattle.ck_history.specs.declared.update.Reply.TheVariants.{Fresh, Full, Was, Has, Missing}
+use Rattle.std.proofs.Common.{ℕ, refl, arith}
 use Rattle.ck_epoch.specs.State.{base_of}
-use Rattle.ck_htplan.specs.declared.cases.Plan.{Plan}
-use Rattle.ck_htplan.specs.declared.cases.Plan.TheVariants.{Empty, Reuse, Stand, Move}
-use Rattle.ck_htplan.specs.Region.{view_of}
 use Rattle.ck_htlaw.specs.Host.{host, first, inner, lies}
-use Rattle.ck_htlaw.specs.Stages.{Insertion, empty, reuse as reusing}
-use Rattle.ck_htlaw.specs.Layout.{log_of}
-use Rattle.ck_htlaw.specs.Actions.{set_reply, put_reply, remove_reply}
-use Rattle.ck_htwrite.specs.declared.state.HtState.{HtState}
-use Rattle.ck_htwrite.specs.State.{IsReady}
-use Rattle.ck_htwrite.specs.Updates.{Asks, IsIn, HasStates, IsMade, IsNeeded, InsertSteps, ReuseSteps, SetSteps, PutSteps, RemoveSteps}
+use Rattle.ck_htlaw.specs.Stages.{Insertion, reuse as reusing}
 use Rattle.ck_htwrite.specs.Writes.{counters_in}
-use Rattle.ck_htwrite.proofs.Slots.{item_in}
-use Rattle.ck_htwrite.proofs.Plans.{room, no_room, keys_few, tombstones_few, about_nothing, about_insert, about_reuse, needed, set_is, put_is, remove_is}
-use Rattle.ck_htwrite.proofs.Made.{may_insert, made_insert, may_reuse, tombstone_here, made_reuse, may_stand, made_stand, may_move, made_move, may_remove, key_here, made_remove, may_ask, made_ask, made_full, made_full_reuse, value_is}
+use Rattle.ck_htwrite.proofs.Plans.{room, no_room, about_nothing, about_reuse}
+use Rattle.ck_htwrite.proofs.Made.{may_reuse, tombstone_here, made_reuse, may_ask, made_full_reuse}
 use Rattle.ck_htwrite.proofs.cases.add_reused.Goals as goal
 
 pub ask_root-requires-clause-due : goal.ask_root-requires-clause-due

@@ -1,13 +1,11 @@
-use Rattle.std.proofs.Common.{◌≡◌, ℕ, List, length, refl, sym, ap, ◌∙◌, subst}
+use Rattle.std.proofs.Common.{◌≡◌, ℕ, List, sym, ap, ◌∙◌, subst}
 use Rattle.ck_epoch.specs.State.{base_of}
-use Rattle.ck_htplan.specs.declared.cases.Plan.{Plan}
 use Rattle.ck_htplan.specs.Plans.{IsPlan}
 use Rattle.ck_htplan.specs.Planning.{plan_of}
 use Rattle.ck_htplan.specs.Region.{order_of, view_of}
 use Rattle.ck_htlaw.specs.Host.{host, first, inner}
 use Rattle.ck_htlaw.specs.Layout.{log_of}
 use Rattle.ck_htlaw.specs.Client.{hash_of}
-use Rattle.ck_htwrite.specs.Updates.{HasStates}
 use Rattle.ck_htwrite.specs.Writes.{counters_in}
 use Rattle.ck_htwrite.proofs.Agree.{plan_same}
 use Rattle.ck_htwrite.proofs.Plans.{plan_in, plan_states, hash_is}

@@ -1,16 +1,14 @@
-use Rattle.std.proofs.Common.{◌≡◌, ◌≢◌, ℕ, ◌+◌, ◌*◌, ◌/◌, ◌%◌, ◌^◌, ◌<◌, ◌≤◌, List, [], map, length, refl, sym, ap, ◌∙◌, subst, arith}
-use Rattle.ck_run.specs.Run.{further}
+use Rattle.std.proofs.Common.{◌≡◌, ℕ, ◌+◌, ◌*◌, ◌^◌, ◌<◌, List, [], length, sym, ap, ◌∙◌, subst, arith}
 use Rattle.ck_epoch.specs.State.{base_of}
 use Rattle.ck_probe.specs.Mixing.{key_code_of}
 use Rattle.ck_slots.specs.Slots.{IsFirst, HasState}
-use Rattle.ck_slots.proofs.Counts.{one_empty}
 use Rattle.ck_htplan.specs.Region.{order_of, view_of}
 use Rattle.ck_htplan.proofs.Orders.{four}
 use Rattle.ck_htlaw.specs.Host.{host, first, inner, lies}
 use Rattle.ck_htlaw.specs.Layout.{log_of}
 use Rattle.ck_htlaw.specs.Client.{hash_of}
 use Rattle.ck_htlaw.specs.Known.{knows}
-use Rattle.ck_htwrite.specs.Rebuild.{pair_steps, CopiesAt}
+use Rattle.ck_htwrite.specs.Rebuild.{pair_steps}
 use Rattle.ck_htwrite.specs.Writes.{counters_in}
 use Rattle.ck_htwrite.proofs.Chains.{no_steps}
 use Rattle.ck_htwrite.proofs.Finding.{key_low, key_high, some_empty, small_slot}

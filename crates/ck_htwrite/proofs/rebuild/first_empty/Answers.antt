@@ -1,4 +1,4 @@
-use Rattle.std.proofs.Common.{◌≡◌, ℕ, ◌+◌, ◌*◌, ◌^◌, ◌<◌, refl, sym, ap, ◌∙◌, subst, arith}
+use Rattle.std.proofs.Common.{◌≡◌, ◌^◌, refl, subst, arith}
 use Rattle.std.proofs.lemmas.Nat.{one_shl}
 use Rattle.ck_htplan.specs.Region.{order_of, view_of}
 use Rattle.ck_htplan.proofs.Orders.{four, order_is, probed_at, below}

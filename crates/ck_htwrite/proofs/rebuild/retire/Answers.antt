@@ -2,7 +2,7 @@ use Rattle.std.proofs.Common.{◌≡◌, ℕ, ◌+◌, ◌/◌, ◌%◌, true, c
 use Rattle.ck_run.specs.declared.account.Step.TheVariants.{Load}
 use Rattle.ck_run.specs.Run.{handing}
 use Rattle.ck_run.specs.Tokens.{adding}
-use Rattle.ck_epoch.specs.State.{state}
+use Rattle.ck_epoch.specs.State.{queue, state}
 use Rattle.ck_epoch.specs.Calls.{MayFollow}
 use Rattle.ck_htlaw.specs.Host.{host, lies}
 use Rattle.ck_htlaw.specs.Known.{knows}
@@ -44,3 +44,12 @@ returns-clause-at g c p d told at replaced =
     let made = ap (λ w. w.token) c.call.ensures.step ∙ ap (λ (i : List ℕ). adding t (handing [] i (Load 0 (state t).epoch) ∷ [])) item in
     subst (λ (z : Answers). WriterAt z (record p { stage = released p.stage; log = released_log p.stage p.log }) d (told ++ cond (nat_lt p.log (released_log p.stage p.log)) (d ∷ []) [])) (sym (knows_next h o t c.call.new.writer.token (retires_by h o c.args.old c.requires.root (state t).epoch) made))
     (retired_at h o c.args.old c.requires.root (knows h o t) p d told (state t).epoch at replaced)
+
+pub returns-clause-pending : goal.returns-clause-pending
+returns-clause-pending g c =
+    let place = g.D.Within.place in let o = c.args.domain.now.origin in let t = c.args.writer.now.token in
+    let base : c.base.result ≡ place o.config.client = c.base.ensures ∙ ap place c.client.ensures.same in
+    c.call.ensures.pending ∙ ap (λ (k : ℕ). queue (state t).pending ++ record { item = record { at = k + c.args.old / 32; log = c.args.old % 32 + 2 }; epoch = (state t).epoch } ∷ []) base
+
+pub returns-clause-same : goal.returns-clause-same
+returns-clause-same g c = c.call.ensures.same.0

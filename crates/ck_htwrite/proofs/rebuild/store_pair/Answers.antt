@@ -1,9 +1,9 @@
-use Rattle.std.proofs.Common.{◌≡◌, ℕ, ◌+◌, ◌*◌, ◌/◌, ◌<◌, List, [], ◌∷◌, ◌++◌, sym, subst, arith}
+use Rattle.std.proofs.Common.{ℕ, [], ◌∷◌, sym, subst, arith}
 use Rattle.ck_run.specs.declared.account.Step.TheVariants.{Store}
 use Rattle.ck_run.specs.declared.account.Entry.{Entry}
 use Rattle.ck_run.specs.Run.{further}
 use Rattle.ck_htlaw.specs.Host.{host, lies}
-use Rattle.ck_htwrite.specs.Writes.{counters_in, MayMake, MayStep, Steps}
+use Rattle.ck_htwrite.specs.Writes.{counters_in, MayStep, Steps}
 use Rattle.ck_htwrite.proofs.Making.{may_first, may_rest, steps_then}
 use Rattle.ck_htwrite.proofs.Copying.{new_word, new_low}
 use Rattle.ck_htwrite.proofs.rebuild.store_pair.Goals as goal

@@ -1,16 +1,14 @@
-use Rattle.std.proofs.Common.{◌≡◌, ℕ, ◌+◌, ◌-◌, ◌*◌, List, [], ◌∷◌, ◌++◌, map, refl, sym, ap, ◌∙◌, subst, arith}
-use Rattle.std.specs.Vec.{with_item}
+use Rattle.std.proofs.Common.{◌≡◌, ℕ, ◌+◌, [], ◌∷◌, ◌++◌, map, sym, ap, ◌∙◌, subst}
 use Rattle.ck_run.specs.declared.account.Step.TheVariants.{Store}
 use Rattle.ck_run.specs.declared.account.Entry.{Entry}
 use Rattle.ck_run.specs.Run.{entry, further}
-use Rattle.ck_htplan.specs.Region.{low_of, high_of}
 use Rattle.ck_htlaw.specs.Host.{host, lies}
 use Rattle.ck_htwrite.specs.declared.state.HtState.{HtState}
 use Rattle.ck_htwrite.specs.State.{next_count}
-use Rattle.ck_htwrite.specs.Updates.{key_steps, insert_steps, bumped_lists, valued_lists, keyed_lists, buried_lists}
+use Rattle.ck_htwrite.specs.Updates.{key_steps, bumped_lists, valued_lists, keyed_lists, buried_lists}
 use Rattle.ck_htwrite.specs.Writes.{counters_in, MayMake, MayStep, Steps}
 use Rattle.ck_htwrite.proofs.Making.{may_first, may_rest, may_some, may_rests, steps_then}
-use Rattle.ck_htwrite.proofs.Shapes.{shaped_word, shaped_bump, shaped_keyed, bumped_again}
+use Rattle.ck_htwrite.proofs.Shapes.{bumped_again}
 use Rattle.ck_htwrite.proofs.updates.move_key.Goals as goal
 
 pub put_word-requires-clause-due : goal.put_word-requires-clause-due

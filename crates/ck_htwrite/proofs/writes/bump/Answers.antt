@@ -3,7 +3,6 @@ use Rattle.std.specs.Vec.{with_item}
 use Rattle.ck_run.specs.declared.account.Step.TheVariants.{Store}
 use Rattle.ck_run.specs.Run.{entry}
 use Rattle.ck_htlaw.specs.Host.{host, lies}
-use Rattle.ck_htwrite.specs.State.{counter_at, next_count}
 use Rattle.ck_htwrite.specs.Writes.{counters_in, MayStep, Steps}
 use Rattle.ck_htwrite.proofs.Slots.{counter_word, bump_is}
 use Rattle.ck_htwrite.proofs.writes.bump.Goals as goal

@@ -1,4 +1,4 @@
-use Rattle.std.proofs.Common.{ℕ, ◌+◌, [], ◌∷◌, ap, subst, sym, arith}
+use Rattle.std.proofs.Common.{ℕ, [], ◌∷◌, subst, sym, arith}
 use Rattle.ck_run.specs.declared.account.Step.TheVariants.{Store}
 use Rattle.ck_run.specs.Run.{entry}
 use Rattle.ck_htlaw.specs.Host.{host, lies}

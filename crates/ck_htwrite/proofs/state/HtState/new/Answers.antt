@@ -2,7 +2,7 @@ use Rattle.std.proofs.Common.{◌≡◌, ◌≤◌, ◌+◌, ◌*◌, ℕ, lengt
 use Rattle.std.specs.Prelude.{vec_capacity}
 use Rattle.ck_htlaw.specs.Layout.{arena, counters_of}
 use Rattle.ck_htwrite.specs.State.{most_words}
-use Rattle.ck_htwrite.proofs.Openings.{opening_root, opening_kept, opening_shape, still_of_table, new_of_table}
+use Rattle.ck_htwrite.proofs.Openings.{opening_kept, opening_shape, still_of_table, new_of_table}
 use Rattle.ck_htwrite.proofs.state.HtState.new.Goals as goal
 use Rattle.ck_htwrite.proofs.state.HtState.new.Goals.{In_ok-vec}
 

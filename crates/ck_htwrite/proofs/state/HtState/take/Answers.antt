@@ -1,4 +1,4 @@
-use Rattle.std.proofs.Common.{◌≡◌, ℕ, ◌+◌, ◌*◌, ◌^◌, ◌<◌, ◌≤◌, length, sym, subst, arith, rules}
+use Rattle.std.proofs.Common.{ℕ, ◌+◌, ◌*◌, ◌^◌, ◌<◌, ◌≤◌, length, sym, subst, arith, rules}
 use Rattle.std.proofs.Math.Nat.{pow-le-pow_right}
 use Rattle.ck_words.specs.Buddies.{Piece, IsFree, IsPieceOut}
 use Rattle.ck_htwrite.proofs.Taking.{log_fits, is_root, log_is, piece_is}
