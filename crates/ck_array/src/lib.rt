@@ -2,3 +2,7 @@
 #![tactic(auto)]
 
 pub mod part;
+mod state;
+mod writing;
+
+pub use state::ArrayState;
