@@ -227,6 +227,7 @@ fn large_files_are_read_side_by_side(rt: HostRuntime) -> Result<(), Fail> {
         }
         updates.push(b'\n')?;
         updates.extend_from_slice(texts[0].as_bytes())?;
+        assert!(rt; !files.is_empty());
         files[0] = (String::from_str(alloc, "u")?, updates);
         let (outcome, taken) = ran(
             &rt,
