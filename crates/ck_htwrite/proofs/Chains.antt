@@ -1,5 +1,5 @@
 -- Steps that go on with a call, and what they leave as it was.
-use Rattle.std.proofs.Common.{◌≡◌, ℕ, ◌+◌, ◌∙◌, List, [], ◌++◌, map, append-nil, refl, sym, ap, subst}
+use Rattle.std.proofs.Common.{◌≡◌, ℕ, ◌+◌, ◌∙◌, List, [], ◌++◌, map, append-nil, refl, sym, ap, subst, arith}
 use Rattle.std.proofs.lemmas.List.{map-append}
 use Rattle.ck_run.specs.declared.account.Step.{Step}
 use Rattle.ck_run.specs.declared.account.Entry.{Entry}
@@ -26,6 +26,10 @@ module _ {D F : Type 0} (h : Host D) (o : Origin D) where
 -- some steps, and the last ones of a counted call
 pub then_counted : {D F : Type 0} (w u v : Writer D F) (es fs : List Entry) → u ≡ record w { token = adding w.token es } → v ≡ record u { token = adding u.token fs; calls = u.calls + 1 } → v ≡ record w { token = adding w.token (es ++ fs); calls = w.calls + 1 }
 then_counted {D} {F} w u v es fs a b = b ∙ (ap (λ (x : Writer D F). record x { token = adding x.token fs; calls = x.calls + 1 }) a ∙ ap (λ (t : Token D). record w { token = t; calls = w.calls + 1 }) (adding-append w.token es fs))
+
+-- a call that isn't counted
+pub not_counted : {D F : Type 0} (w u : Writer D F) (es : List Entry) → u ≡ record w { token = adding w.token es } → u ≡ record w { token = adding w.token es; calls = w.calls + 0 }
+not_counted w u es made = made ∙ ap (λ (k : ℕ). record w { token = adding w.token es; calls = k }) (let z : w.calls ≡ w.calls + 0 = omega arith in z)
 
 -- the room of a region doesn't depend on the other copy
 pub same_room : (n : ℕ) (s z : HtState) (root : ℕ) → z ≡ record s { spare = z.spare } → CanHoldAll n s root → CanHoldAll n z root

@@ -23,3 +23,4 @@ pub mod Published
 pub mod Chains
 pub mod Building
 pub mod Rebuilding
+pub mod Tidies

@@ -69,3 +69,7 @@ kept_after n place old root t0 t2 t3 waiting waiting' a b k kept new is item pen
     let list : unreturned t3 waiting' ≡ unreturned t0 waiting ++ k ∷ [] = ap (unreturned t3) same ∙ (unreturned_more t2 t3 waiting k more still
         ∙ (λ i. drop (length (dispatched i) - length waiting) (queue (dispatched i)) ++ queue (pending i) ++ k ∷ [])) in
     subst (λ (items : List Retired). IsKept n place root items b) (sym list) (kept_then n place old root (unreturned t0 waiting) a b k item kept new adds (still_of_table n a b (set.insert a.out (region_piece root)) is kept.of_table))
+
+-- where what was retired is as before
+pub same_unreturned : (t u : TokenState) (waiting waiting' : List Back) → u.pending ≡ t.pending → u.dispatched ≡ t.dispatched → waiting' ≡ waiting → unreturned u waiting' ≡ unreturned t waiting
+same_unreturned t u waiting waiting' pending dispatched same i = drop (length (dispatched i) - length (same i)) (queue (dispatched i)) ++ queue (pending i)
