@@ -1,11 +1,10 @@
 -- When a `tidy` rebuilds, and how much room there is then.
-use Rattle.std.proofs.Common.{◌≡◌, ◌≢◌, ℕ, zero, suc, ◌+◌, ◌^◌, ◌<◌, ◌≤◌, Bool, cond, ◌==◌, eq-eqb, ne_eqb, List, [], ◌∷◌, ◌++◌, refl, sym, ap, ◌∙◌, subst, arith}
+use Rattle.std.proofs.Common.{◌≡◌, ◌≢◌, ℕ, zero, suc, ◌+◌, ◌<◌, ◌≤◌, Bool, cond, ◌==◌, eq-eqb, ne_eqb, List, [], ◌∷◌, sym, ap, ◌∙◌, arith}
 use mathlib.Core.Logic.{dite}
 use native.Mathlib.Decide.{ℕ_discrete}
 use Rattle.ck_run.specs.declared.account.Step.{Step}
 use Rattle.ck_run.specs.Run.{entry}
 use Rattle.ck_run.specs.Range.{word_of}
-use Rattle.ck_history.specs.declared.log.LogEntry.{LogEntry}
 use Rattle.ck_history.specs.declared.update.Update.TheVariants.{Tidy}
 use Rattle.ck_history.specs.declared.update.Reply.TheVariants.{Tidied}
 use Rattle.ck_slots.specs.Counting.{count as how_many, used}

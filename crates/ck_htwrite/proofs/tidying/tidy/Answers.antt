@@ -1,9 +1,7 @@
-use Rattle.std.proofs.Common.{◌≡◌, ℕ, ◌+◌, ◌^◌, ◌<◌, ◌≤◌, List, [], ◌∷◌, ◌++◌, length, length-append, refl, sym, ap, ◌∙◌, subst, arith}
+use Rattle.std.proofs.Common.{◌≡◌, ℕ, ◌+◌, ◌≤◌, length, length-append, sym, ap, ◌∙◌, subst, arith}
 use Rattle.ck_run.specs.Tokens.{table}
-use Rattle.ck_epoch.specs.State.{state}
 use Rattle.ck_htlaw.specs.Host.{host}
 use Rattle.ck_htlaw.specs.Known.{knows}
-use Rattle.ck_htwrite.specs.Arena.{IsKept, unreturned}
 use Rattle.ck_htwrite.specs.State.{Ready}
 use Rattle.ck_htwrite.specs.Writes.{counters_in}
 use Rattle.ck_htwrite.proofs.Between.{once}

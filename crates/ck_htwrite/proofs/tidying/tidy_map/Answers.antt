@@ -1,7 +1,4 @@
-use Rattle.std.proofs.Common.{◌≡◌, ◌≢◌, ℕ, ◌+◌, ◌^◌, ◌<◌, ◌≤◌, inr, List, [], ◌∷◌, ◌++◌, length, rules, refl, sym, ap, ◌∙◌, subst, arith}
-use Rattle.ck_run.specs.declared.account.Step.{Step}
-use Rattle.ck_run.specs.declared.account.Step.TheVariants.{Load}
-use Rattle.ck_run.specs.Run.{entry}
+use Rattle.std.proofs.Common.{◌≡◌, ◌≢◌, ℕ, ◌^◌, inr, List, [], ◌∷◌, ◌++◌, rules, refl, sym, ap, ◌∙◌, subst, arith}
 use Rattle.ck_epoch.specs.declared.item.Retired.{Retired}
 use Rattle.ck_epoch.specs.State.{base_of, state}
 use Rattle.ck_history.specs.declared.log.LogEntry.{LogEntry}
@@ -11,7 +8,7 @@ use Rattle.ck_htlaw.specs.Actions.{tombstones_now}
 use Rattle.ck_htlaw.specs.Host.{host, first, inner, lies}
 use Rattle.ck_htlaw.specs.Known.{knows}
 use Rattle.ck_htlaw.specs.Layout.{log_of}
-use Rattle.ck_htwrite.specs.Arena.{IsKept, unreturned}
+use Rattle.ck_htwrite.specs.Arena.{IsKept}
 use Rattle.ck_htwrite.specs.Updates.{Asks}
 use Rattle.ck_htwrite.specs.Writes.{counters_in, WriterAt}
 use Rattle.ck_htwrite.proofs.Agree.{tombstones_are}
