@@ -1,12 +1,13 @@
 -- Steps that go on with a call, and what they leave as it was.
-use Rattle.std.proofs.Common.{◌≡◌, ℕ, ◌+◌, ◌∙◌, List, [], ◌++◌, map, append-nil, refl, sym, ap, subst, arith}
-use Rattle.std.proofs.lemmas.List.{map-append}
+use Rattle.std.proofs.Common.{◌≡◌, ℕ, ◌+◌, ◌∙◌, List, [], ◌∷◌, ◌++◌, length, length-append, map, append-nil, refl, sym, ap, subst, arith}
+use Rattle.std.proofs.lemmas.List.{length-map, map-append}
 use Rattle.ck_run.specs.declared.account.Step.{Step}
 use Rattle.ck_run.specs.declared.account.Entry.{Entry}
 use Rattle.ck_run.specs.Run.{further}
 use Rattle.ck_run.specs.Tokens.{adding, did, viewing}
 use Rattle.ck_run.proofs.Moments.{adding-append}
-use Rattle.ck_epoch.specs.State.{Origin, Token}
+use Rattle.ck_epoch.specs.State.{Origin, Token, Retirement, queue}
+use Rattle.ck_epoch.specs.declared.item.Retired.{Retired}
 use Rattle.ck_epoch.specs.Ends.{Writer, IsDomainToken}
 use Rattle.ck_htlaw.specs.Host.{Host}
 use Rattle.ck_htwrite.specs.declared.state.HtState.{HtState}
@@ -34,3 +35,7 @@ not_counted w u es made = made ∙ ap (λ (k : ℕ). record w { token = adding w
 -- the room of a region doesn't depend on the other copy
 pub same_room : (n : ℕ) (s z : HtState) (root : ℕ) → z ≡ record s { spare = z.spare } → CanHoldAll n s root → CanHoldAll n z root
 same_room n s z root is can = subst (λ (y : HtState). CanHoldAll n y root) (sym is) record { is_root = can.is_root; apart = can.apart; room = can.room; once = can.once }
+
+-- one item more is pending
+pub one_retired : (xs ys : List Retirement) (k : Retired) → queue ys ≡ queue xs ++ k ∷ [] → length ys ≡ length xs + 1
+one_retired xs ys k is = sym (length-map ys (λ (x : Retirement). x.retired)) ∙ (ap length is ∙ (length-append (queue xs) (k ∷ []) ∙ ap (λ (n : ℕ). n + 1) (length-map xs (λ (x : Retirement). x.retired))))

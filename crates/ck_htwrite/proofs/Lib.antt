@@ -24,3 +24,5 @@ pub mod Chains
 pub mod Building
 pub mod Rebuilding
 pub mod Tidies
+pub mod Growing
+pub mod Grown

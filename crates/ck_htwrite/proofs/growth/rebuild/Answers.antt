@@ -1,5 +1,5 @@
-use Rattle.std.proofs.Common.{◌≡◌, ℕ, ◌+◌, ◌^◌, ◌<◌, ◌≤◌, List, length, refl, sym, ap, ◌∙◌, subst, arith}
-use Rattle.ck_run.specs.Tokens.{table}
+use Rattle.std.proofs.Common.{◌≡◌, ℕ, ◌+◌, ◌^◌, ◌<◌, ◌≤◌, List, [], ◌∷◌, length, refl, sym, ap, ◌∙◌, subst, arith}
+use Rattle.ck_run.specs.Tokens.{adding, table}
 use Rattle.ck_epoch.specs.State.{Retirement, state}
 use Rattle.ck_words.specs.Buddies.{Arena}
 use Rattle.ck_htlaw.specs.Actions.{answer_to}
@@ -9,9 +9,9 @@ use Rattle.ck_htlaw.specs.Known.{IsRoot, knows}
 use Rattle.ck_htlaw.specs.Layout.{log_of, region_item, IsFreeRegion}
 use Rattle.ck_htwrite.specs.declared.state.HtState.{HtState}
 use Rattle.ck_htwrite.specs.Arena.{IsArenaOfTable, IsKept, unreturned}
-use Rattle.ck_htwrite.specs.Rebuild.{CopiesAt, adopted_lists}
-use Rattle.ck_htwrite.specs.Writes.{counters_in}
-use Rattle.ck_htwrite.proofs.Chains.{same_room, then_counted}
+use Rattle.ck_htwrite.specs.Rebuild.{CanHoldAll, CopiesAt, adopted_lists, rebuild_entries}
+use Rattle.ck_htwrite.specs.Writes.{counters_in, opened, WriterAt}
+use Rattle.ck_htwrite.proofs.Chains.{same_room, then_counted, one_retired}
 use Rattle.ck_htwrite.proofs.Rebuilding.{free_region, can_hold, with_arena, kept_after}
 use Rattle.ck_htwrite.proofs.growth.rebuild.Goals as goal
 
@@ -80,7 +80,17 @@ replace-requires-clause-due g c =
     )
 
 pub returns-clause-steps : goal.returns-clause-steps
-returns-clause-steps g c = (_, then_counted c.args.writer.now c.build.new.writer c.replace.new.writer _ _ c.build.ensures.steps.1.made c.replace.ensures.steps.1)
+returns-clause-steps g c =
+    let h = host g.D.Client.meaning g.D.Within.place g.D.Within.part in let o = c.args.domain.now.origin in let l = lies h o in
+    let w0 = c.args.writer.now in let w3 = c.replace.new.writer in let ss = c.build.ensures.steps.0 in let epoch = c.replace.ensures.steps.0 in
+    let roots = ap (λ (x : HtState). x.root) c.build.ensures.state ∙ ap (λ (x : HtState). x.root) c.in_ok-root.ensures.after in
+    let made = then_counted w0 c.build.new.writer w3 _ _ c.build.ensures.steps.1.made c.replace.ensures.steps.1 in
+    (epoch, ss, subst (λ (z : ℕ × ℕ). w3 ≡ record w0 { token = adding w0.token (rebuild_entries l g.O.Opens.opens z.0 z.1 ss epoch); calls = w0.calls + 1 }) (λ i. (roots i, sym (ap (λ (x : HtState). x.root) c.replace.ensures.state) i)) made)
+
+pub returns-clause-retired : goal.returns-clause-retired
+returns-clause-retired g c =
+    let k = c.replace.ensures.retired in
+    one_retired (state c.build.new.writer.token).pending (state c.replace.new.writer.token).pending k.0 k.2 ∙ ap (λ (xs : List Retirement). length xs + 1) c.build.ensures.steps.1.same.0
 
 pub returns-clause-lists : goal.returns-clause-lists
 returns-clause-lists g c =

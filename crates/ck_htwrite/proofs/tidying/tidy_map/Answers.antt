@@ -76,7 +76,7 @@ pub returns-clause-none : goal.returns-clause-none
 returns-clause-none g c = ((λ e. absurd (cc)), (λ z. c.in_ok-rebuild.ensures.none.1 z.1))
 
 pub returns-clause-steps : goal.returns-clause-steps
-returns-clause-steps g c = (c.in_ok-rebuild.ensures.steps.0, 1, omega arith, c.in_ok-rebuild.ensures.steps.1)
+returns-clause-steps g c = (_, 1, omega arith, c.in_ok-rebuild.ensures.steps.2)
 
 pub returns-clause-over : goal.returns-clause-over
 returns-clause-over g c =
