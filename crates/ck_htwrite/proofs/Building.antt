@@ -1,15 +1,13 @@
 -- A region is built: from the first step of a rebuild until all pairs are copied.
-use Rattle.std.proofs.Common.{◌≡◌, ◌≢◌, ℕ, zero, suc, ◌+◌, ◌-◌, ◌*◌, ◌/◌, ◌%◌, ◌^◌, ◌<◌, ◌≤◌, le_trans, ◌⊎◌, ⊎_elim, inl, inr, List, [], ◌∷◌, map, length, set, length-set, get_or, get_or-set_same, get_or-set_other, refl, sym, ap, ◌∙◌, subst, arith}
+use Rattle.std.proofs.Common.{◌≡◌, ℕ, suc, ◌+◌, ◌-◌, ◌*◌, ◌^◌, ◌<◌, ◌≤◌, le_trans, ⊎_elim, List, map, length, set, length-set, get_or, get_or-set_same, sym, subst, arith}
 use Rattle.std.specs.Prelude.{min, replicate, slice_index, vec_capacity}
 use Rattle.std.proofs.lemmas.Bool.{cases_lt}
 use Rattle.std.proofs.lemmas.List.{get_or-replicate, get_or_past, length-replicate}
 use Rattle.std.proofs.lemmas.Nat.{pow_pos}
 use Rattle.std.proofs.Math.Nat.{pow-le-pow_right}
-use Rattle.ck_run.specs.declared.account.Entry.{Entry}
 use Rattle.ck_run.specs.Run.{further}
 use Rattle.ck_run.specs.Machine.{state_after}
 use Rattle.ck_history.specs.declared.log.LogEntry.{LogEntry}
-use Rattle.ck_htplan.specs.Region.{view_of}
 use Rattle.ck_htlaw.specs.declared.client.HtClient.{HtClient}
 use Rattle.ck_htlaw.specs.Stages.{idle}
 use Rattle.ck_htlaw.specs.Calls.{opening_of}
@@ -23,7 +21,7 @@ use Rattle.ck_htwrite.specs.State.{Reflects, most_words}
 use Rattle.ck_htwrite.specs.Writes.{WriterAt}
 use Rattle.ck_htwrite.specs.Rebuild.{BeginsRebuildAt, clear_steps, CanHoldAll, CopiesAt}
 use Rattle.ck_htwrite.proofs.Pairs.{lists_still}
-use Rattle.ck_htwrite.proofs.Begun.{e0, begun, begin_at, clears_at, cleared_at, cleared_words, at_clear, cleared_states, lists_kept, copying_none, eight_slots}
+use Rattle.ck_htwrite.proofs.Begun.{e0, begun, begin_at, cleared_at, cleared_words, at_clear, cleared_states, lists_kept, copying_none, eight_slots}
 
 -- a list of zeros
 pub zero_at : (n i : ℕ) → slice_index (replicate n 0) i ≡ 0

@@ -1,5 +1,6 @@
 -- What the law of the table says of the writer's token.
 use Rattle.std.proofs.Common.{◌≡◌, ◌≢◌, ℕ, zero, suc, ⊎_elim, ◌+◌, ◌*◌, ◌<◌, ◌≤◌, List, [], ◌++◌, length, append-nil, refl, sym, ap, ◌∙◌, subst, arith}
+use Rattle.std.specs.Prelude.{Some, None}
 use Rattle.std.specs.Ordering.{nat_cmp}
 use Rattle.ck_run.specs.Run.{Run, account}
 use Rattle.ck_run.specs.Tokens.{number, origin}
@@ -28,7 +29,7 @@ use Rattle.ck_htlaw.specs.Table.{Layout, WriterState, writer, view}
 use Rattle.ck_htlaw.specs.Actions.{most, answer_to, plan_now, slots_now, tombstones_now}
 use Rattle.ck_htlaw.specs.Invariant.{WriterInvariant, owed}
 use Rattle.ck_htlaw.specs.Client.{Answers, answers_after, table}
-use Rattle.ck_htlaw.specs.Linearized.{map_after}
+use Rattle.ck_htlaw.specs.Linearized.{map_after, under_way}
 use Rattle.ck_htlaw.specs.Known.{knows}
 use Rattle.ck_htlaw.proofs.Reclaim.{IsTrue, Holds as HoldsAt, scene}
 use Rattle.ck_htlaw.proofs.Always.{always_at}
@@ -48,6 +49,10 @@ none_counted f x zero e s b is = absurd (omega arith)
 none_counted f x (suc n) e s b is = dite (ℕ_discrete (f n) x)
     (λ (z : f n ≡ x). let h = count_here f x n z in absurd (omega arith))
     (λ (z : f n ≢ x). let h = count_else f x n z in dite (ℕ_discrete s n) (λ (y : s ≡ n). absurd (z (ap f (sym y) ∙ is))) (λ (y : s ≢ n). none_counted f x n (omega arith) s (omega arith) is))
+
+opt_none : (x : ℕ) → opt x ≡ None → x ≡ 0
+opt_none zero e = refl
+opt_none (suc x) e = absurd (let z : Some x ≡ None = e in cc)
 
 module _ {D : Type 0} (h : Host D) (within : IsWithin table h.client h.place h.part) (t : Token D) (part : IsDomainToken h.client t) (zero : number t ≡ 0)
     (p : WriterState) (is : WriterIs h (origin t) t p) where
@@ -102,6 +107,10 @@ module _ {D : Type 0} (h : Host D) (within : IsWithin table h.client h.place h.p
   pub log_is : length (knows h (origin t) t).log ≡ p.log
   log_is = logs.count
 
+  -- the map that the slots stand for is the map after the log, where no update is under way
+  pairs_now : under_way p.stage (knows h (origin t) t).due ≡ [] → (k : ℕ) → opt (p.maps p.linearized k) ≡ find nat_cmp (map_after (knows h (origin t) t).log) k
+  pairs_now calm k = subst (λ (us : List (LogEntry ℕ)). opt (p.maps p.linearized k) ≡ find nat_cmp (map_after us) k) (logs.is ∙ (ap (λ (x : List (LogEntry ℕ)). (knows h (origin t) t).log ++ x) calm ∙ append-nil (knows h (origin t) t).log)) (logs.pairs k)
+
   -- between two calls
   module _ (idles : p.stage ≡ idle) where
     pub few_bumps : p.bumps ≤ 2 * p.log
@@ -134,13 +143,17 @@ module _ {D : Type 0} (h : Host D) (within : IsWithin table h.client h.place h.p
         (map_idle.once k.0 a b k.1 (record { inside = low_b; full = full_b; is_low = sym same_low ∙ k.1.is_low; is_high = sym same_high ∙ k.1.is_high })))
 
     -- a key whose plan names an empty slot is absent
-    pub absent : (key at : ℕ) → plan_now l p key ≡ Empty at → p.maps p.linearized key ≡ 0
-    absent key at planned = missing (l.order p.root) seen p.maps p.linearized map_idle key 0 (subst (Says (l.order p.root) seen key) planned (plan_says l words p holds map_idle key)).3
+    pub absent : (key at : ℕ) → plan_now l p key ≡ Empty at → find nat_cmp (map_after (knows h (origin t) t).log) key ≡ None
+    absent key at planned = sym (pairs_now (ap (λ (g : Stage). under_way g (knows h (origin t) t).due) idles) key)
+        ∙ ap opt (missing (l.order p.root) seen p.maps p.linearized map_idle key 0 (subst (Says (l.order p.root) seen key) planned (plan_says l words p holds map_idle key)).3)
 
   -- after a rebuild the plan of an absent key names an empty slot
-  pub empty_after : (call : List ℕ) → p.stage ≡ after_rebuild call → (key : ℕ) → p.maps p.linearized key ≡ 0 → tombstones_now l p ≡ 0 → (at : ℕ) × (plan_now l p key ≡ Empty at)
-  empty_after call after key none clean = by (plan_now l p key) (plan_says l words p holds map_after_rebuild key)
+  pub empty_after : (call : List ℕ) → p.stage ≡ after_rebuild call → (key : ℕ) → find nat_cmp (map_after (knows h (origin t) t).log) key ≡ None → tombstones_now l p ≡ 0 → (at : ℕ) × (plan_now l p key ≡ Empty at)
+  empty_after call after key not_found clean = by (plan_now l p key) (plan_says l words p holds map_after_rebuild key)
     where
+      none : p.maps p.linearized key ≡ 0
+      none = opt_none (p.maps p.linearized key) (pairs_now (ap (λ (g : Stage). under_way g (knows h (origin t) t).due) after) key ∙ not_found)
+
       map_after_rebuild : IsMap (l.order p.root) (view l words p.root) p.maps p.linearized idle
       map_after_rebuild = map_rest (l.order p.root) (view l words p.root) p.maps p.linearized (after_rebuild call) tt (subst (λ (g : Stage). IsMap (l.order p.root) (view l words p.root) p.maps p.linearized g) after holds.map)
 

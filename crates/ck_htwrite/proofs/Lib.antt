@@ -23,3 +23,6 @@ pub mod Published
 pub mod Chains
 pub mod Building
 pub mod Rebuilding
+pub mod Tidies
+pub mod Growing
+pub mod Grown

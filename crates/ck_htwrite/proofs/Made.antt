@@ -1,6 +1,8 @@
 -- The cases of an update, from the writer between two calls: their steps may be made, and with them the call is made.
-use Rattle.std.proofs.Common.{◌≡◌, ℕ, ◌^◌, ◌<◌, Bool, true, false, cond, nat_lt, List, [], ◌∷◌, refl, sym, ap, ◌∙◌, subst}
-use Rattle.std.specs.Prelude.{MatchBool}
+use Rattle.std.proofs.Common.{◌≡◌, ℕ, ◌^◌, ◌<◌, Bool, true, false, cond, nat_lt, List, [], ◌∷◌, refl, sym, ap, ◌∙◌, subst, inr}
+use Rattle.std.specs.Prelude.{MatchBool, MatchResult}
+use Rattle.std.specs.declared.result.Result.{Result}
+use Rattle.std.specs.declared.result.Result.TheVariants.{Ok, Err}
 use Rattle.ck_run.specs.declared.account.Step.{Step}
 use Rattle.ck_run.specs.declared.account.Step.TheVariants.{Store, Load}
 use Rattle.ck_run.specs.declared.account.Entry.{Entry}
@@ -22,8 +24,10 @@ use Rattle.ck_htlaw.specs.Actions.{action, added, answer_to, keys_now, most, slo
 use Rattle.ck_htlaw.specs.Client.{Answers, answers_next}
 use Rattle.ck_htlaw.specs.Known.{knows}
 use Rattle.ck_htwrite.specs.declared.state.HtState.{HtState}
+use Rattle.ck_htwrite.specs.declared.state.Need.{Need}
+use Rattle.ck_htplan.specs.declared.cases.Plan.TheVariants.{Empty}
 use Rattle.ck_htwrite.specs.State.{IsReady, next_count}
-use Rattle.ck_htwrite.specs.Updates.{Asks, InsertSteps, ReuseSteps, IsMade, IsOver, MayBegin, settled, bumped_count, insert_steps, reuse_steps, move_steps, remove_steps, inserted_lists, reused_lists, moved_lists, removed_lists, valued_lists}
+use Rattle.ck_htwrite.specs.Updates.{Asks, IsDone, IsGrown, IsNeeded, IsRoomy, InsertSteps, ReuseSteps, IsMade, IsOver, MayBegin, settled, bumped_count, insert_steps, reuse_steps, move_steps, remove_steps, inserted_lists, reused_lists, moved_lists, removed_lists, valued_lists}
 use Rattle.ck_htwrite.specs.Writes.{MayMake, MayStep, Steps, WriterAt, counters_in, opened}
 use Rattle.ck_htwrite.proofs.Making.{may_first}
 use Rattle.ck_htwrite.proofs.Agree.{value_same}
@@ -77,11 +81,11 @@ module _ {D F : Type 0} (h : Host D) (o : Origin D) (w w' : Writer D F) (s s' : 
       pub may_insert : MayMake h o w.token (opened opens (insert_steps l s.root at key value))
       may_insert = (p, r.is, can_insert floor (first h o) client p s r.reflects opens begins key value at few does)
 
-      pub made_insert : states at ≡ 0 → has_room ≡ true → Steps h o w (opened opens (insert_steps l s.root at key value)) w' → s' ≡ inserted_lists s at key value → IsMade h o p (added l p) (InsertSteps l p key value at) opens w Fresh w' s'
-      made_insert was fits steps is = record {
+      pub made_insert : states at ≡ 0 → has_room ≡ true → IsRoomy l p → Steps h o w (opened opens (insert_steps l s.root at key value)) w' → s' ≡ inserted_lists s at key value → IsMade h o p (added l p) (InsertSteps l p key value at) opens w Fresh w' s'
+      made_insert was fits roomy steps is = record {
         reply_is = sym (ap (λ (b : Bool). cond b Fresh Full) fits);
         steps = insert_steps l s.root at key value;
-        are = subst (λ (b : Bool). MatchBool b (insert_steps l s.root at key value ≡ insert_steps l p.root at key value) (Asks l (insert_steps l s.root at key value))) (sym fits) (ap (λ (x : ℕ). insert_steps l x at key value) (sym r.reflects.root));
+        are = subst (λ (b : Bool). MatchBool b (IsRoomy l p × (insert_steps l s.root at key value ≡ insert_steps l p.root at key value)) (Asks l (insert_steps l s.root at key value))) (sym fits) (roomy, ap (λ (x : ℕ). insert_steps l x at key value) (sym r.reflects.root));
         made = steps;
         over = over_from _ _ steps is (insert_over floor (first h o) client p s r.reflects opens begins key value at few does a a.due a.log at0 was);
       }
@@ -166,7 +170,7 @@ module _ {D F : Type 0} (h : Host D) (o : Origin D) (w w' : Writer D F) (s s' : 
   -- there is no room for a fresh key
   pub made_full : ((x : Step) → action l p (entry opens x) ≡ nothing) → has_room ≡ false → (found : ℕ) (key value at : ℕ) → Steps h o w (entry opens (Load l.base found) ∷ []) w' → s' ≡ s → IsMade h o p (added l p) (InsertSteps l p key value at) opens w Full w' s'
   made_full does full found key value at steps is = made_ask does found (added l p) Full (sym (ap (λ (b : Bool). cond b Fresh Full) full)) (InsertSteps l p key value at)
-      (λ ss asks. subst (λ (b : Bool). MatchBool b (ss ≡ insert_steps l p.root at key value) (Asks l ss)) (sym full) asks) steps is
+      (λ ss asks. subst (λ (b : Bool). MatchBool b (IsRoomy l p × (ss ≡ insert_steps l p.root at key value)) (Asks l ss)) (sym full) asks) steps is
 
   pub made_full_reuse : ((x : Step) → action l p (entry opens x) ≡ nothing) → has_room ≡ false → (found : ℕ) (key value at : ℕ) → Steps h o w (entry opens (Load l.base found) ∷ []) w' → s' ≡ s → IsMade h o p (added l p) (ReuseSteps l p key value at) opens w Full w' s'
   made_full_reuse does full found key value at steps is = made_ask does found (added l p) Full (sym (ap (λ (b : Bool). cond b Fresh Full) full)) (ReuseSteps l p key value at)
@@ -175,3 +179,10 @@ module _ {D F : Type 0} (h : Host D) (o : Origin D) (w w' : Writer D F) (s s' : 
   -- the value of a full slot, as the law has it
   pub value_is : (at : ℕ) → at < slots → states at ≡ 1 → (x : ℕ) → x ≡ (view_of s.words.items).value at → x ≡ (slots_now l p).value at
   value_is at few full x is = is ∙ value_same floor (first h o) n client p s r.reflects at few full
+
+-- a call that rebuilt first is done
+module _ {D F : Type 0} (h : Host D) (o : Origin D) (p : WriterState) (w : Writer D F) (s : HtState) (key value at : ℕ) (opens : List ℕ) where
+  pub done_grown : (result : Result Reply Need) (w' : Writer D F) (s' : HtState) → MatchResult result (λ reply. IsGrown h o p (added (lies h o) p) (Empty at) opens key value w reply w' s s') (λ need. IsNeeded h o p (Empty at) s need)
+      → MatchResult result (λ reply. IsDone h o p (added (lies h o) p) (InsertSteps (lies h o) p key value at) (Empty at) opens key value w reply w' s s') (λ need. IsNeeded h o p (Empty at) s need)
+  done_grown (Ok reply) w' s' x = inr x
+  done_grown (Err need) w' s' x = x

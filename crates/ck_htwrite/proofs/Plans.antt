@@ -22,7 +22,7 @@ use Rattle.ck_htlaw.specs.Client.{orders_of, hash_of}
 use Rattle.ck_htwrite.specs.declared.state.HtState.{HtState}
 use Rattle.ck_htwrite.specs.declared.state.Need.{Need}
 use Rattle.ck_htwrite.specs.State.{Reflects}
-use Rattle.ck_htwrite.specs.Updates.{IsIn, HasStates, IsAdding, IsNeeded}
+use Rattle.ck_htwrite.specs.Updates.{AddsFresh, IsIn, HasStates, IsAdding}
 use Rattle.ck_htwrite.proofs.Agree.{keys_are, tombstones_are}
 use Rattle.ck_htwrite.proofs.Slots.{count_most}
 
@@ -76,7 +76,7 @@ module _ (floor base : ℕ) (client : HtClient) (p : WriterState) (s : HtState) 
     pub no_room : 262144 ≤ s.keys → nat_lt (keys_now l p) most ≡ false
     no_room = not_less s.keys (keys_now l p) (keys_are floor base n client p s h)
 
-    rule_is : (b : Bool) → b ≡ nat_le (4 * (s.keys + s.tombstones + 1)) (3 * 2 ^ log_of s.root) → nat_le (4 * (keys_now l p + tombstones_now l p + 1)) (3 * (l.order p.root).slots) ≡ b
+    pub rule_is : (b : Bool) → b ≡ nat_le (4 * (s.keys + s.tombstones + 1)) (3 * 2 ^ log_of s.root) → nat_le (4 * (keys_now l p + tombstones_now l p + 1)) (3 * (l.order p.root).slots) ≡ b
     rule_is b e = sym (e ∙ (λ i. nat_le (4 * (keys_are floor base n client p s h i + tombstones_are floor base n client p s h i + 1)) (3 * 2 ^ log_of (sym h.root i))))
 
     module _ (opens : List ℕ) (c : Target) (w : Insertion) (adding_is : IsAdding l p opens c w) where
@@ -92,14 +92,6 @@ module _ (floor base : ℕ) (client : HtClient) (p : WriterState) (s : HtState) 
     pub about_reuse : (opens : List ℕ) (w : Insertion) → IsAdding l p opens reuse w → nat_lt (keys_now l p) most ≡ true → (x : Step) → action l p (entry opens x) ≡ inserts reuse w
     about_reuse opens w adding_is fits x = about_in opens reuse w adding_is fits x
 
-    pub needed : nat_lt (keys_now l p) most ≡ true → (b : Bool) → b ≡ nat_le (4 * (s.keys + s.tombstones + 1)) (3 * 2 ^ log_of s.root) → b ≡ false → (need : Need) → need.shelf ≡ 0 → need.log ≡ rebuilt_log (log_of s.root) s.keys + 2 → IsNeeded l p need
-    needed fits b e off need shelf log = record {
-      room = fits;
-      full = over_full (4 * (keys_now l p + tombstones_now l p + 1)) (3 * (l.order p.root).slots) (rule_is b e ∙ off);
-      shelf = shelf;
-      log = log ∙ (λ i. rebuilt_log (log_of (sym h.root i)) (keys_are floor base n client p s h i) + 2);
-    }
-
 -- what a call is about, by its plan
 module _ (l : Layout) (p : WriterState) (idles : p.stage ≡ idle) (key value : ℕ) (plan : Plan) (is : plan_now l p key ≡ plan) where
   pub set_is : (opens : List ℕ) → opens ≡ setting ∷ key ∷ value ∷ [] → (x : Step) → action l p (entry opens x) ≡ to_set l p plan key value (word_of x)
@@ -110,3 +102,10 @@ module _ (l : Layout) (p : WriterState) (idles : p.stage ≡ idle) (key value : 
 
   pub remove_is : (opens : List ℕ) → opens ≡ removing ∷ key ∷ [] → (x : Step) → action l p (entry opens x) ≡ to_remove l p plan key
   remove_is opens e x = ap (λ (os : List ℕ). action l p (entry os x)) e ∙ (ap (λ (g : Stage). by_stage l p g (entry (removing ∷ key ∷ []) x)) idles ∙ ap (λ (q : Plan). to_remove l p q key) is)
+
+-- after a rebuild these calls put their fresh key in
+pub adds_set : (key value : ℕ) → AddsFresh (setting ∷ key ∷ value ∷ []) key value
+adds_set key value l p at planned word = ap (λ (q : Plan). to_set l p q key value word) planned
+
+pub adds_put : (key value : ℕ) → AddsFresh (putting ∷ key ∷ value ∷ []) key value
+adds_put key value l p at planned word = ap (λ (q : Plan). to_put l p q key value word) planned

@@ -1,10 +1,10 @@
 -- A rebuild as a whole: the region that is taken is free by the account, and can hold all pairs.
-use Rattle.std.proofs.Common.{◌≡◌, ◌≢◌, ℕ, ◌+◌, ◌-◌, ◌*◌, ◌^◌, ◌<◌, ◌≤◌, ◌⊎◌, ⊎_elim, inl, inr, List, [], ◌∷◌, ◌++◌, append_assoc, length, map, refl, sym, ap, ◌∙◌, subst, arith}
+use Rattle.std.proofs.Common.{◌≡◌, ℕ, ◌+◌, ◌-◌, ◌^◌, ◌≤◌, ⊎_elim, inl, inr, List, [], ◌∷◌, ◌++◌, append_assoc, length, sym, ap, ◌∙◌, subst, arith}
 use Rattle.std.specs.Prelude.{All, drop}
 use Rattle.std.specs.FinSet as set
 use Rattle.std.proofs.lemmas.List.Elements.{All-nil, All-cons, All-head, All-tail}
 use Rattle.ck_words.specs.declared.back.Back.{Back}
-use Rattle.ck_words.specs.Buddies.{Arena, piece_cmp, with_pieces_out, IsPieceOut, IsFree, AddsPiece}
+use Rattle.ck_words.specs.Buddies.{Arena, with_pieces_out, IsPieceOut, IsFree, AddsPiece}
 use Rattle.ck_epoch.specs.declared.item.Retired.{Retired}
 use Rattle.ck_epoch.specs.State.{Retirement, TokenState, queue}
 use Rattle.ck_reclaim.specs.Pieces.{AreApart}
@@ -67,5 +67,9 @@ pub kept_after : (n place old root : ℕ) (t0 t2 t3 : TokenState) (waiting waiti
 kept_after n place old root t0 t2 t3 waiting waiting' a b k kept new is item pending dispatched more still same =
     let adds : AddsPiece a b (region_piece root) = subst (λ (x : Arena). AddsPiece a x (region_piece root)) (sym is) (adds_piece a (region_piece root)) in
     let list : unreturned t3 waiting' ≡ unreturned t0 waiting ++ k ∷ [] = ap (unreturned t3) same ∙ (unreturned_more t2 t3 waiting k more still
-        ∙ (λ i. drop (length (dispatched i) - length waiting) (queue (dispatched i)) ++ queue (pending i) ++ k ∷ [])) in
+    ∙ (λ i. drop (length (dispatched i) - length waiting) (queue (dispatched i)) ++ queue (pending i) ++ k ∷ [])) in
     subst (λ (items : List Retired). IsKept n place root items b) (sym list) (kept_then n place old root (unreturned t0 waiting) a b k item kept new adds (still_of_table n a b (set.insert a.out (region_piece root)) is kept.of_table))
+
+-- where what was retired is as before
+pub same_unreturned : (t u : TokenState) (waiting waiting' : List Back) → u.pending ≡ t.pending → u.dispatched ≡ t.dispatched → waiting' ≡ waiting → unreturned u waiting' ≡ unreturned t waiting
+same_unreturned t u waiting waiting' pending dispatched same i = drop (length (dispatched i) - length (same i)) (queue (dispatched i)) ++ queue (pending i)

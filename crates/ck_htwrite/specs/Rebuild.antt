@@ -1,9 +1,10 @@
 -- A rebuild: what the writer stores in a region that isn't published, and what holds of it meanwhile.
-use Rattle.std.specs.Prelude.{◌≡◌, ◌≢◌, ℕ, zero, suc, ◌+◌, ◌*◌, ◌^◌, ◌<◌, ◌≤◌, List, [], ◌∷◌, length, slice_index}
+use Rattle.std.specs.Prelude.{◌≡◌, ◌≢◌, ℕ, zero, suc, ◌+◌, ◌*◌, ◌^◌, ◌<◌, ◌≤◌, List, [], ◌∷◌, ◌++◌, length, slice_index}
 use Rattle.std.specs.Vec.{with_item}
 use Rattle.ck_run.specs.declared.account.Step.{Step}
-use Rattle.ck_run.specs.declared.account.Step.TheVariants.{Store}
-use Rattle.ck_run.specs.Run.{entry}
+use Rattle.ck_run.specs.declared.account.Step.TheVariants.{Load, Store}
+use Rattle.ck_run.specs.declared.account.Entry.{Entry}
+use Rattle.ck_run.specs.Run.{entry, further, handing}
 use Rattle.ck_run.specs.Range.{word_of}
 use Rattle.ck_slots.specs.Slots.{SlotsView}
 use Rattle.ck_slots.specs.Counting.{count as how_many, used}
@@ -19,7 +20,7 @@ use Rattle.ck_htlaw.specs.Actions.{action, root_at, when_copied}
 use Rattle.ck_htlaw.specs.Client.{Answers}
 use Rattle.ck_htwrite.specs.declared.state.HtState.{HtState}
 use Rattle.ck_htwrite.specs.State.{Reflects}
-use Rattle.ck_htwrite.specs.Writes.{WriterAt}
+use Rattle.ck_htwrite.specs.Writes.{opened, WriterAt}
 
 -- The first step of this call builds a region: it is a store in the region's first word, where that of this root begins
 abbrev pub BeginsRebuildAt : Layout → WriterState → List ℕ → ℕ → Type 0
@@ -96,3 +97,8 @@ pub record Rebuilt (n : ℕ) (l : Layout) (a : Answers) (stage : Stage) (due : L
   pub at : WriterAt a is_writer due told
   pub stage_is : is_writer.stage ≡ stage
   pub lists : Reflects n l is_writer s
+
+-- What a rebuild of the map stores and hands over, from the region of one root to that of another: it clears the new region's first slot, stores
+-- in the new region, stores its root, and retires the old one
+abbrev pub rebuild_entries : Layout → List ℕ → ℕ → ℕ → List Step → ℕ → List Entry
+rebuild_entries l opens old root stores epoch = opened opens (Store (l.word root 0 0) 0 ∷ stores) ++ further (Store l.base root) ∷ handing [] (l.item old) (Load 0 epoch) ∷ []

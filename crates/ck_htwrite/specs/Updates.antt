@@ -1,12 +1,14 @@
 -- What an update stores and answers, by its plan.
-use Rattle.std.specs.Prelude.{◌≡◌, ℕ, suc, ◌+◌, ◌-◌, ◌*◌, ◌<◌, ◌≤◌, Bool, nat_lt, List, [], ◌∷◌, ◌++◌, MatchBool, set, slice_index, true}
+use Rattle.std.specs.Prelude.{◌≡◌, ℕ, suc, ◌+◌, ◌-◌, ◌*◌, ◌^◌, ◌<◌, ◌≤◌, ◌⊎◌, Bool, nat_lt, List, [], ◌∷◌, ◌++◌, length, map, MatchBool, set, slice_index, true}
 use Rattle.std.specs.Vec.{with_item}
 use Rattle.ck_run.specs.declared.account.Step.{Step}
 use Rattle.ck_run.specs.declared.account.Step.TheVariants.{Load, Store}
-use Rattle.ck_run.specs.Run.{entry}
+use Rattle.ck_run.specs.declared.account.Entry.{Entry}
+use Rattle.ck_run.specs.Run.{entry, further}
 use Rattle.ck_run.specs.Range.{word_of}
-use Rattle.ck_epoch.specs.State.{Origin}
-use Rattle.ck_epoch.specs.Ends.{Writer}
+use Rattle.ck_run.specs.Tokens.{adding}
+use Rattle.ck_epoch.specs.State.{Origin, state}
+use Rattle.ck_epoch.specs.Ends.{Writer, IsDomainToken}
 use Rattle.ck_history.specs.declared.log.LogEntry.{LogEntry}
 use Rattle.ck_history.specs.declared.update.Reply.{Reply}
 use Rattle.ck_slots.specs.Slots.{SlotsView}
@@ -15,15 +17,17 @@ use Rattle.ck_htplan.specs.declared.cases.Plan.{Plan}
 use Rattle.ck_htplan.specs.declared.cases.Plan.TheVariants.{Empty, Reuse, Stand, Move}
 use Rattle.ck_htplan.specs.Region.{low_of, high_of}
 use Rattle.ck_htlaw.specs.Calls.{opening_of}
-use Rattle.ck_htlaw.specs.Stages.{Insertion, Target, Stage, idle, after_rebuild}
+use Rattle.ck_htlaw.specs.Stages.{Insertion, Target, empty, Stage, idle, after_rebuild}
 use Rattle.ck_htlaw.specs.Layout.{log_of}
 use Rattle.ck_htlaw.specs.Table.{Layout, WriterState, Action, count}
-use Rattle.ck_htlaw.specs.Actions.{most, action, adds, answer_to, keys_now, tombstones_now}
+use Rattle.ck_htlaw.specs.Actions.{most, action, adds, answer_to, by_call, keys_now, plan_now, tombstones_now}
 use Rattle.ck_htlaw.specs.Client.{Answers}
 use Rattle.ck_htlaw.specs.Host.{Host, lies}
 use Rattle.ck_htlaw.specs.Known.{knows}
 use Rattle.ck_htwrite.specs.declared.state.HtState.{HtState}
 use Rattle.ck_htwrite.specs.declared.state.Need.{Need}
+use Rattle.ck_htwrite.specs.Arena.{HasNoneFree, IsKept, unreturned}
+use Rattle.ck_htwrite.specs.Rebuild.{rebuild_entries}
 use Rattle.ck_htwrite.specs.State.{counter_at, next_count, Mirrors, Reflects}
 use Rattle.ck_htwrite.specs.Writes.{counters_in, opened, Steps, WriterAt}
 
@@ -81,6 +85,10 @@ MayBegin idle opens = Unit {0}
 MayBegin (after_rebuild call) opens = opens ≡ []
 MayBegin g opens = ⊥
 
+-- the call goes on after its rebuild, and then a fresh key goes into an empty slot
+abbrev pub AddsFresh : List ℕ → ℕ → ℕ → Type 0
+AddsFresh opens key value = (l : Layout) (p : WriterState) (at : ℕ) → plan_now l p key ≡ Empty at → (word : ℕ) → by_call l p (opening_of opens) word ≡ adds l p empty (record { key = key; number = value; to = at }) word
+
 -- what the call answers, which is settled at its first step
 abbrev pub settled : Layout → WriterState → Stage → List ℕ → LogEntry ℕ → LogEntry ℕ
 settled l p idle opens due = answer_to l p (opening_of opens)
@@ -127,9 +135,13 @@ module _ (l : Layout) (p : WriterState) where
   abbrev pub has_room : Bool
   has_room = nat_lt (keys_now l p) most
 
+  -- at most three quarters of the slots are in use, with one more
+  abbrev pub IsRoomy : Type 0
+  IsRoomy = 4 * (keys_now l p + tombstones_now l p + 1) ≤ 3 * (l.order p.root).slots
+
   -- the steps of a fresh key that takes an empty slot, or a tombstone
   abbrev pub InsertSteps : ℕ → ℕ → ℕ → List Step → Type 0
-  InsertSteps key value at ss = MatchBool has_room (ss ≡ insert_steps l p.root at key value) (Asks l ss)
+  InsertSteps key value at ss = MatchBool has_room (IsRoomy × (ss ≡ insert_steps l p.root at key value)) (Asks l ss)
 
   abbrev pub ReuseSteps : ℕ → ℕ → ℕ → List Step → Type 0
   ReuseSteps key value at ss = MatchBool has_room (ss ≡ reuse_steps l p.root at key value bumped_count) (Asks l ss)
@@ -157,12 +169,29 @@ module _ (l : Layout) (p : WriterState) where
   abbrev pub IsAdding : List ℕ → Target → Insertion → Type 0
   IsAdding opens c w = (s : Step) → action l p (entry opens s) ≡ adds l p c w (word_of s)
 
-  -- a fresh key is about to take an empty slot, and the map has to be rebuilt first, into a piece of this length
-  pub record IsNeeded (need : Need) : Type 0 where
+  -- A fresh key takes an empty slot of this plan, and the map has to be rebuilt first
+  pub record IsRebuildDue (plan : Plan) : Type 0 where
+    pub slot : ℕ
+    pub fresh : plan ≡ Empty slot
     pub room : has_room ≡ true
-    pub full : 3 * (l.order p.root).slots < 4 * (keys_now l p + tombstones_now l p + 1)
-    pub shelf : need.shelf ≡ 0
-    pub log : need.log ≡ rebuilt_log (log_of p.root) (keys_now l p) + 2
+    pub full : IsRoomy → ⊥
+
+  -- the length of the piece that the rebuild takes
+  abbrev pub needed_log : ℕ
+  needed_log = rebuilt_log (log_of p.root) (keys_now l p) + 2
+
+  -- the steps of a call that rebuilds the map first: those of the rebuild, and then the stores of the fresh key and its value in a slot of the
+  -- new region
+  pub record AreGrowing (opens : List ℕ) (key value : ℕ) (es : List Entry) : Type 0 where
+    pub root : ℕ
+    pub at : ℕ
+    pub epoch : ℕ
+    pub stores : List Step
+    pub are : es ≡ rebuild_entries l opens p.root root stores epoch ++ map further (insert_steps l root at key value)
+
+  -- what a call made: the steps of its case, or those of a rebuild and then of a fresh key
+  abbrev pub Makes : (List Step → Type 0) → Plan → List ℕ → ℕ → ℕ → List Entry → Type 0
+  Makes AreSteps plan opens key value es = ((ss : List Step) × AreSteps ss × (es ≡ opened opens ss)) ⊎ (IsRebuildDue plan × AreGrowing opens key value es)
 
 module _ {D : Type 0} (h : Host D) (o : Origin D) (p : WriterState) where
   -- A call that opens so, from this state between two calls, answers what is expected of it, made such steps, and is over
@@ -172,3 +201,27 @@ module _ {D : Type 0} (h : Host D) (o : Origin D) (p : WriterState) where
     pub are : AreSteps steps
     pub made : Steps h o w (opened opens steps) w'
     pub over : IsOver (counters_in h o) (lies h o) (knows h o w'.token) (answer_to (lies h o) p (opening_of opens)) (knows h o w.token).log s
+
+  -- The same of a call that rebuilds first. A region of that length was free, and the one that it replaced is pending
+  pub record IsGrown {F : Type 0} (expected : Reply) (plan : Plan) (opens : List ℕ) (key value : ℕ) (w : Writer D F) (reply : Reply) (w' : Writer D F) (s s' : HtState) : Type 0 where
+    pub reply_is : reply ≡ expected
+    pub due : IsRebuildDue (lies h o) p plan
+    pub free : HasNoneFree s.arena (needed_log (lies h o) p) → ⊥
+    pub entries : List Entry
+    pub are : AreGrowing (lies h o) p opens key value entries
+    pub made : w' ≡ record w { token = adding w.token entries; calls = w.calls + 1 }
+    pub is_token : IsDomainToken h.client w'.token
+    pub retired : length (state w'.token).pending ≡ length (state w.token).pending + 1
+    pub over : IsOver (counters_in h o) (lies h o) (knows h o w'.token) (answer_to (lies h o) p (opening_of opens)) (knows h o w.token).log s'
+    pub arena : IsKept (counters_in h o) (h.place o.config.client) s'.root (unreturned (state w'.token) w'.waiting) s'.arena
+
+  -- A call that may rebuild. The arena is as before where it didn't
+  abbrev pub IsDone : {F : Type 0} → Reply → (List Step → Type 0) → Plan → List ℕ → ℕ → ℕ → Writer D F → Reply → Writer D F → HtState → HtState → Type 0
+  IsDone expected AreSteps plan opens key value w reply w' s s' = (IsMade expected AreSteps opens w reply w' s' × (s'.root ≡ s.root) × (s'.arena ≡ s.arena)) ⊎ IsGrown expected plan opens key value w reply w' s s'
+
+  -- A rebuild is due, and no piece of the length that it takes is free
+  pub record IsNeeded (plan : Plan) (s : HtState) (need : Need) : Type 0 where
+    pub due : IsRebuildDue (lies h o) p plan
+    pub shelf : need.shelf ≡ 0
+    pub log : need.log ≡ needed_log (lies h o) p
+    pub none : HasNoneFree s.arena need.log

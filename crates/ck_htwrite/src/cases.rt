@@ -1,18 +1,23 @@
 //! Which case an update is.
-ghost use Rattle.std.specs.Prelude.{◌≡◌, ◌+◌, ◌*◌, ◌^◌, ◌<◌, ◌≤◌, nat_le, [], ◌∷◌, length, MatchResult, IfErr};
+ghost use Rattle.std.specs.Prelude.{ℕ, ◌≡◌, ◌+◌, ◌*◌, ◌^◌, ◌<◌, ◌≤◌, nat_le, [], ◌∷◌, length, MatchResult, IfErr};
 ghost use Rattle.ck_run.specs.Tokens.{table};
 ghost use Rattle.ck_slots.specs.Counting.{rebuilt_log};
+ghost use Rattle.ck_epoch.specs.State.{state as epochs};
+ghost use Rattle.ck_htplan.specs.declared.cases.Plan.TheVariants.{Empty};
 ghost use Rattle.ck_htplan.specs.Region.{view_of};
 ghost use Rattle.ck_htlaw.specs.Calls.{set as setting, put as putting, remove as removing};
 ghost use Rattle.ck_htlaw.specs.Host.{host, lies};
-ghost use Rattle.ck_htlaw.specs.Stages.{empty, reuse as reusing};
+ghost use Rattle.ck_htlaw.specs.Stages.{reuse as reusing};
 ghost use Rattle.ck_htlaw.specs.Layout.{log_of};
 ghost use Rattle.ck_htlaw.specs.Table.{WriterState};
 ghost use Rattle.ck_htlaw.specs.Actions.{added, plan_now, set_reply, put_reply, remove_reply};
+ghost use Rattle.ck_htwrite.specs.Arena.{IsKept, unreturned};
+ghost use Rattle.ck_htwrite.specs.Rebuild.{GoesOnAfter};
 ghost use Rattle.ck_htwrite.specs.State.{Reflects, IsReady, next_count};
-ghost use Rattle.ck_htwrite.specs.Updates.{IsIn, HasStates, IsAdding, IsNeeded, IsMade, InsertSteps, ReuseSteps, SetSteps, PutSteps, RemoveSteps};
+ghost use Rattle.ck_htwrite.specs.Updates.{AddsFresh, IsDone, IsGrown, IsIn, HasStates, IsAdding, IsNeeded, IsMade, InsertSteps, ReuseSteps, SetSteps, PutSteps, RemoveSteps};
 ghost use Rattle.ck_htwrite.specs.Writes.{counters_in};
 
+use crate::growth::rebuild;
 use crate::state::{HtState, Need};
 use crate::updates::{VALUE, delete, insert, move_key, reuse};
 use crate::writes::{ask_root, put_word};
@@ -21,7 +26,7 @@ use ck_history::{Key, Reply};
 use ck_htlaw::HtClient;
 use ck_htplan::{Plan, high_word, low_word, plan};
 use ck_probe::key_code;
-use ck_run::Opens;
+use ck_run::{Continues, Opens};
 
 // The most pairs of a table.
 const MOST: u64 = 262_144;
@@ -45,19 +50,14 @@ fn value_at(state: &HtState, at: u64) -> u64
     state.words[(4 * at + VALUE) as usize]
 }
 
-// The piece that a rebuild for a fresh key takes: of twice as many slots where more than half of them would be full.
-fn need_for(state: &HtState) -> Need
+// The logarithm of the slots after a rebuild for a fresh key: one more where more than half of the slots would be full.
+fn grown_log(state: &HtState) -> u64
     requires log { log_of state.now.root ≤ 19 }
     requires keys { state.now.keys ≤ 524288 }
-    ensures shelf { result.shelf ≡ 0 }
-    ensures log { result.log ≡ rebuilt_log (log_of state.now.root) state.now.keys + 2 }
+    ensures { result ≡ rebuilt_log (log_of state.now.root) state.now.keys }
 {
     let log = state.root % 32;
-    let grows = 2 * (state.keys + 1) > 1 << log;
-    Need {
-        shelf: 0,
-        log: if grows { log + 3 } else { log + 2 },
-    }
+    if 2 * (state.keys + 1) > 1 << log { log + 1 } else { log }
 }
 
 // Whether a fresh key may take an empty slot as the map is: at most three quarters of the slots are in use then.
@@ -70,8 +70,39 @@ fn is_roomy(state: &HtState) -> bool
     4 * (state.keys + state.tombstones + 1) <= 3 * (1 << (state.root % 32))
 }
 
-// A fresh key goes into an empty slot, if there is room and no rebuild is due.
-pub(crate) fn add_empty<D: Within<HtClient>, F, O: Opens>(
+// The map is rebuilt into a free region, and then a fresh key goes into an empty slot. The new region has no tombstone, and at most half of its
+// slots are in use, so the key's plan names an empty slot that it may take.
+fn add_grown<D: Within<HtClient>, F, O: Opens>(
+    domain: &Domain<D>,
+    writer: &mut Writer<D, F>,
+    state: &mut HtState,
+    key: Key,
+    value: u64,
+) -> Result<Reply, Need>
+    requires table { table writer.old.token ≡ domain.now }
+    requires calls { writer.old.calls < 2 ^ 40 }
+    requires room { length (epochs writer.old.token).pending + length writer.old.waiting < writer.old.room }
+    requires arena { IsKept (counters_in (host D.meaning D.place D.part) domain.now.origin) (D.place domain.now.origin.config.client) state.old.root (unreturned (epochs writer.old.token) writer.old.waiting) state.old.arena }
+    requires keys { state.old.keys < 262144 }
+    requires full { 3 * 2 ^ log_of state.old.root < 4 * (state.old.keys + state.old.tombstones + 1) }
+    requires goes_on { GoesOnAfter (lies (host D.meaning D.place D.part) domain.now.origin) O.opens }
+    requires adds { AddsFresh O.opens key value }
+    requires due { (r : IsReady (host D.meaning D.place D.part) domain.now.origin writer.old.token state.old) × (at : ℕ) × (plan_now (lies (host D.meaning D.place D.part) domain.now.origin) r.is_writer key ≡ Empty at) }
+    ensures made { (r : IsReady (host D.meaning D.place D.part) domain.now.origin writer.old.token state.old) (at : ℕ) → plan_now (lies (host D.meaning D.place D.part) domain.now.origin) r.is_writer key ≡ Empty at → MatchResult result (λ reply. IsGrown (host D.meaning D.place D.part) domain.now.origin r.is_writer (added (lies (host D.meaning D.place D.part) domain.now.origin) r.is_writer) (Empty at) O.opens key value writer.old reply writer.new state.old state.new) (λ need. IsNeeded (host D.meaning D.place D.part) domain.now.origin r.is_writer (Empty at) state.old need) }
+    ensures same { IfErr result (λ need. (writer.new ≡ writer.old) × (state.new ≡ state.old)) }
+{
+    let _updates = writer.tally();
+    let log = grown_log(state);
+    rebuild::<D, F, O>(domain, writer, state, log)?;
+    let Plan::Empty { at } = plan_for(domain, state, key) else {
+        unreachable!();
+    };
+    insert::<D, F, Continues>(domain, writer, state, at, key, value);
+    Ok(Reply::Fresh)
+}
+
+// A fresh key goes into an empty slot, if there is room.
+fn add_empty<D: Within<HtClient>, F, O: Opens>(
     domain: &Domain<D>,
     writer: &mut Writer<D, F>,
     state: &mut HtState,
@@ -80,26 +111,30 @@ pub(crate) fn add_empty<D: Within<HtClient>, F, O: Opens>(
     value: u64,
 ) -> Result<Reply, Need>
     requires table { table writer.old.token ≡ domain.now }
+    requires calls { writer.old.calls < 2 ^ 40 }
+    requires room { length (epochs writer.old.token).pending + length writer.old.waiting < writer.old.room }
+    requires arena { IsKept (counters_in (host D.meaning D.place D.part) domain.now.origin) (D.place domain.now.origin.config.client) state.old.root (unreturned (epochs writer.old.token) writer.old.waiting) state.old.arena }
     requires slot { at < 2 ^ log_of state.old.root }
     requires was { (view_of state.old.words.items).state at ≡ 0 }
-    requires due { (r : IsReady (host D.meaning D.place D.part) domain.now.origin writer.old.token state.old) × IsAdding (lies (host D.meaning D.place D.part) domain.now.origin) r.is_writer O.opens empty (record { key = key; number = value; to = at }) }
-    ensures made { (r : IsReady (host D.meaning D.place D.part) domain.now.origin writer.old.token state.old) → IsAdding (lies (host D.meaning D.place D.part) domain.now.origin) r.is_writer O.opens empty (record { key = key; number = value; to = at }) → MatchResult result (λ reply. IsMade (host D.meaning D.place D.part) domain.now.origin r.is_writer (added (lies (host D.meaning D.place D.part) domain.now.origin) r.is_writer) (InsertSteps (lies (host D.meaning D.place D.part) domain.now.origin) r.is_writer key value at) O.opens writer.old reply writer.new state.new) (λ need. IsNeeded (lies (host D.meaning D.place D.part) domain.now.origin) r.is_writer need) }
+    requires goes_on { GoesOnAfter (lies (host D.meaning D.place D.part) domain.now.origin) O.opens }
+    requires adds { AddsFresh O.opens key value }
+    requires due { (r : IsReady (host D.meaning D.place D.part) domain.now.origin writer.old.token state.old) × (plan_now (lies (host D.meaning D.place D.part) domain.now.origin) r.is_writer key ≡ Empty at) }
+    ensures made { (r : IsReady (host D.meaning D.place D.part) domain.now.origin writer.old.token state.old) → plan_now (lies (host D.meaning D.place D.part) domain.now.origin) r.is_writer key ≡ Empty at → MatchResult result (λ reply. IsDone (host D.meaning D.place D.part) domain.now.origin r.is_writer (added (lies (host D.meaning D.place D.part) domain.now.origin) r.is_writer) (InsertSteps (lies (host D.meaning D.place D.part) domain.now.origin) r.is_writer key value at) (Empty at) O.opens key value writer.old reply writer.new state.old state.new) (λ need. IsNeeded (host D.meaning D.place D.part) domain.now.origin r.is_writer (Empty at) state.old need) }
     ensures same { IfErr result (λ need. (writer.new ≡ writer.old) × (state.new ≡ state.old)) }
-    ensures kept { (state.new.root ≡ state.old.root) × (state.new.arena ≡ state.old.arena) }
 {
     if state.keys >= MOST {
         ask_root::<D, F, O>(domain, writer);
         return Ok(Reply::Full);
     }
     if !is_roomy(state) {
-        return Err(need_for(state));
+        return add_grown::<D, F, O>(domain, writer, state, key, value);
     }
     insert::<D, F, O>(domain, writer, state, at, key, value);
     Ok(Reply::Fresh)
 }
 
 // A fresh key takes a tombstone, if there is room.
-pub(crate) fn add_reused<D: Within<HtClient>, F, O: Opens>(
+fn add_reused<D: Within<HtClient>, F, O: Opens>(
     domain: &Domain<D>,
     writer: &mut Writer<D, F>,
     state: &mut HtState,
@@ -133,14 +168,16 @@ pub(crate) fn set_by<D: Within<HtClient>, F, O: Opens>(
     value: u64,
 ) -> Result<Reply, Need>
     requires table { table writer.old.token ≡ domain.now }
+    requires calls { writer.old.calls < 2 ^ 40 }
+    requires room { length (epochs writer.old.token).pending + length writer.old.waiting < writer.old.room }
+    requires arena { IsKept (counters_in (host D.meaning D.place D.part) domain.now.origin) (D.place domain.now.origin.config.client) state.old.root (unreturned (epochs writer.old.token) writer.old.waiting) state.old.arena }
     requires name { O.opens ≡ setting ∷ key ∷ value ∷ [] }
     requires inside { IsIn (2 ^ log_of state.old.root) plan }
     requires states { HasStates (view_of state.old.words.items) plan }
     requires small { next_count (counters_in (host D.meaning D.place D.part) domain.now.origin) state.old < 2 ^ 62 }
     requires due { (r : IsReady (host D.meaning D.place D.part) domain.now.origin writer.old.token state.old) × (plan_now (lies (host D.meaning D.place D.part) domain.now.origin) r.is_writer key ≡ plan) }
-    ensures made { (r : IsReady (host D.meaning D.place D.part) domain.now.origin writer.old.token state.old) → plan_now (lies (host D.meaning D.place D.part) domain.now.origin) r.is_writer key ≡ plan → MatchResult result (λ reply. IsMade (host D.meaning D.place D.part) domain.now.origin r.is_writer (set_reply (lies (host D.meaning D.place D.part) domain.now.origin) r.is_writer plan) (SetSteps (lies (host D.meaning D.place D.part) domain.now.origin) r.is_writer key value plan) O.opens writer.old reply writer.new state.new) (λ need. IsNeeded (lies (host D.meaning D.place D.part) domain.now.origin) r.is_writer need) }
+    ensures made { (r : IsReady (host D.meaning D.place D.part) domain.now.origin writer.old.token state.old) → plan_now (lies (host D.meaning D.place D.part) domain.now.origin) r.is_writer key ≡ plan → MatchResult result (λ reply. IsDone (host D.meaning D.place D.part) domain.now.origin r.is_writer (set_reply (lies (host D.meaning D.place D.part) domain.now.origin) r.is_writer plan) (SetSteps (lies (host D.meaning D.place D.part) domain.now.origin) r.is_writer key value plan) plan O.opens key value writer.old reply writer.new state.old state.new) (λ need. IsNeeded (host D.meaning D.place D.part) domain.now.origin r.is_writer plan state.old need) }
     ensures same { IfErr result (λ need. (writer.new ≡ writer.old) × (state.new ≡ state.old)) }
-    ensures kept { (state.new.root ≡ state.old.root) × (state.new.arena ≡ state.old.arena) }
 {
     match plan {
         Plan::Empty { at } => add_empty::<D, F, O>(domain, writer, state, at, key, value),
@@ -168,14 +205,16 @@ pub(crate) fn put_by<D: Within<HtClient>, F, O: Opens>(
     value: u64,
 ) -> Result<Reply, Need>
     requires table { table writer.old.token ≡ domain.now }
+    requires calls { writer.old.calls < 2 ^ 40 }
+    requires room { length (epochs writer.old.token).pending + length writer.old.waiting < writer.old.room }
+    requires arena { IsKept (counters_in (host D.meaning D.place D.part) domain.now.origin) (D.place domain.now.origin.config.client) state.old.root (unreturned (epochs writer.old.token) writer.old.waiting) state.old.arena }
     requires name { O.opens ≡ putting ∷ key ∷ value ∷ [] }
     requires inside { IsIn (2 ^ log_of state.old.root) plan }
     requires states { HasStates (view_of state.old.words.items) plan }
     requires small { next_count (counters_in (host D.meaning D.place D.part) domain.now.origin) state.old < 2 ^ 62 }
     requires due { (r : IsReady (host D.meaning D.place D.part) domain.now.origin writer.old.token state.old) × (plan_now (lies (host D.meaning D.place D.part) domain.now.origin) r.is_writer key ≡ plan) }
-    ensures made { (r : IsReady (host D.meaning D.place D.part) domain.now.origin writer.old.token state.old) → plan_now (lies (host D.meaning D.place D.part) domain.now.origin) r.is_writer key ≡ plan → MatchResult result (λ reply. IsMade (host D.meaning D.place D.part) domain.now.origin r.is_writer (put_reply (lies (host D.meaning D.place D.part) domain.now.origin) r.is_writer plan) (PutSteps (lies (host D.meaning D.place D.part) domain.now.origin) r.is_writer key value plan) O.opens writer.old reply writer.new state.new) (λ need. IsNeeded (lies (host D.meaning D.place D.part) domain.now.origin) r.is_writer need) }
+    ensures made { (r : IsReady (host D.meaning D.place D.part) domain.now.origin writer.old.token state.old) → plan_now (lies (host D.meaning D.place D.part) domain.now.origin) r.is_writer key ≡ plan → MatchResult result (λ reply. IsDone (host D.meaning D.place D.part) domain.now.origin r.is_writer (put_reply (lies (host D.meaning D.place D.part) domain.now.origin) r.is_writer plan) (PutSteps (lies (host D.meaning D.place D.part) domain.now.origin) r.is_writer key value plan) plan O.opens key value writer.old reply writer.new state.old state.new) (λ need. IsNeeded (host D.meaning D.place D.part) domain.now.origin r.is_writer plan state.old need) }
     ensures same { IfErr result (λ need. (writer.new ≡ writer.old) × (state.new ≡ state.old)) }
-    ensures kept { (state.new.root ≡ state.old.root) × (state.new.arena ≡ state.old.arena) }
 {
     match plan {
         Plan::Empty { at } => add_empty::<D, F, O>(domain, writer, state, at, key, value),

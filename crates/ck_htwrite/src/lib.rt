@@ -9,9 +9,11 @@ mod rebuild;
 mod state;
 #[cfg(test)]
 mod tests;
+mod tidying;
 mod updates;
 mod writes;
 
 pub use calls::{put, remove, set};
 pub use ck_htlaw::HtClient;
 pub use state::{HtState, Need};
+pub use tidying::tidy;

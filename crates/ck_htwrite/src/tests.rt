@@ -1,4 +1,5 @@
-ghost use Rattle.std.specs.Prelude.{◌≡◌, ◌≤◌, IfOk};
+ghost use Rattle.std.specs.Prelude.{◌≡◌, ◌≤◌, [], IfOk};
+ghost use Rattle.ck_epoch.specs.State.{state as epochs};
 ghost use Rattle.ck_run.specs.Tokens.{table};
 ghost use Rattle.ck_epoch.specs.Lists.{Answers};
 ghost use Rattle.ck_htlaw.specs.Client.{home_of, table as table_client};
@@ -22,6 +23,7 @@ fn opened<F: Fn(Item) -> Back + Drop>(
     requires handler { Answers (table_client.retires client) (table_client.home client) (F.pre handler) (F.post handler) }
     ensures token { IfOk result (λ r. table r.1.token ≡ r.0) }
     ensures calls { IfOk result (λ r. r.1.calls ≡ 0) }
+    ensures room { IfOk result (λ r. (r.1.room ≡ 64) × (r.1.waiting ≡ []) × ((epochs r.1.token).pending ≡ [])) }
     ensures ready { IfOk result (λ r. Ready (host table_client (λ c. 0) (λ c. c)) r.0.origin r.1 r.2) }
 {
     let state = HtState::new(alloc, &client)?;

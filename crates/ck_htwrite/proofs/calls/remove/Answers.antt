@@ -4,6 +4,7 @@ use Rattle.ck_run.specs.Tokens.{table, adding}
 use Rattle.ck_history.specs.declared.update.Reply.{Reply}
 use Rattle.ck_history.specs.declared.update.Update.TheVariants.{Del}
 use Rattle.ck_htplan.specs.declared.cases.Plan.{Plan}
+use Rattle.ck_epoch.specs.State.{state}
 use Rattle.ck_htlaw.specs.Host.{host, lies}
 use Rattle.ck_htlaw.specs.Calls.{opening_of, removing, remove}
 use Rattle.ck_htlaw.specs.Table.{WriterState}
@@ -45,6 +46,17 @@ returns-clause-table g c =
     let planned = c.plan_for-plan.ensures.plan p r.reflects in
     let made = c.remove_by-reply.ensures.made r planned in
     ap (λ v. table v.token) c.set_tally.ensures ∙ ap (λ v. table v.token) made.made.made
+
+pub returns-clause-pending : goal.returns-clause-pending
+returns-clause-pending g c =
+    let o = c.args.domain.now.origin in
+    let h = host g.D.Client.meaning g.D.Within.place g.D.Within.part in
+    let l = lies h o in let s = c.args.state.now in let w = c.args.writer.now in let t = w.token in let key : ℕ = c.args.key in
+    let same = ap (λ v. v.origin) c.requires.table in let writing = c.tally-updates.ensures.writing in
+    let ready = c.requires.ready in let r = ready.lists in let p = r.is_writer in
+    let planned = c.plan_for-plan.ensures.plan p r.reflects in
+    let made = c.remove_by-reply.ensures.made r planned in
+    ap (λ v. (state v.token).pending) c.set_tally.ensures ∙ made.made.same.0
 
 pub returns-clause-reply : goal.returns-clause-reply
 returns-clause-reply g c =

@@ -1,4 +1,4 @@
-use Rattle.std.proofs.Common.{◌≡◌, ℕ, suc, ◌+◌, ◌-◌, ◌*◌, ◌^◌, ◌<◌, ◌≤◌, List, [], ◌∷◌, ◌++◌, map, length, refl, sym, ap, ◌∙◌, subst, arith}
+use Rattle.std.proofs.Common.{◌≡◌, ℕ, ◌-◌, ◌*◌, ◌^◌, ◌<◌, ◌≤◌, List, [], ◌∷◌, ◌++◌, map, length, refl, sym, ap, ◌∙◌, subst, arith}
 use Rattle.std.proofs.lemmas.List.{map-append}
 use Rattle.std.proofs.lemmas.Nat.{pow_pos}
 use Rattle.std.proofs.Math.Nat.{pow-le-pow_right}
@@ -8,17 +8,13 @@ use Rattle.ck_run.specs.declared.account.Entry.{Entry}
 use Rattle.ck_run.specs.Run.{entry, further}
 use Rattle.ck_run.specs.Tokens.{table}
 use Rattle.ck_epoch.specs.State.{base_of}
-use Rattle.ck_history.specs.declared.log.LogEntry.{LogEntry}
 use Rattle.ck_htlaw.specs.Actions.{answer_to}
 use Rattle.ck_htlaw.specs.Calls.{opening_of}
 use Rattle.ck_htlaw.specs.Host.{host, first, inner, lies}
 use Rattle.ck_htlaw.specs.Known.{knows}
 use Rattle.ck_htlaw.specs.Layout.{log_of}
-use Rattle.ck_htlaw.specs.Stages.{idle}
-use Rattle.ck_htlaw.specs.Table.{WriterState}
 use Rattle.ck_htwrite.specs.declared.state.HtState.{HtState}
-use Rattle.ck_htwrite.specs.Rebuild.{BeginsRebuildAt, clear_steps, CanHoldAll, CopiesAt}
-use Rattle.ck_htwrite.specs.State.{Reflects}
+use Rattle.ck_htwrite.specs.Rebuild.{clear_steps}
 use Rattle.ck_htwrite.specs.Writes.{counters_in, IsFreeBy, Steps, WriterAt}
 use Rattle.ck_htwrite.proofs.Making.{steps_then}
 use Rattle.ck_htwrite.proofs.Begun.{begin_step, can_clear, begun}
@@ -74,9 +70,13 @@ copy_all-requires-clause-due g c =
     let s : HtState = record c.args.state.now { spare = c.blank.new.words } in
     let two : 0 < 2 = omega arith in let q : 2 ^ log_of root ≤ 2 ^ 19 = pow-le-pow_right two can.is_root.few in
     let long : length c.blank.new.words.items ≡ 4 * 2 ^ log_of root = (let e = c.blank.ensures.length in omega arith) in
-    let due = (knows h o w0.token).due in let told = (knows h o w0.token).log in let at : WriterAt (knows h o w0.token) p due told = record { local = d.1; answer = refl; log = refl } in
-    (p, g.O.Opens.opens, answer_to (lies h o) p (opening_of g.O.Opens.opens), told,
-    copies_start fl ba client root p s (record { is_root = can.is_root; apart = can.apart; room = can.room; once = can.once }) (with_spare (counters_in h o) (lies h o) p c.args.state.now s c.blank.ensures.room r) idles g.O.Opens.opens begins (knows h o w0.token) (knows h o c.begin.new.writer.token) (knows h o c.clear_rest.new.writer.token) due told at c.begin.ensures.step.knows_now c.clear_rest.ensures.steps.knows_now long c.blank.ensures.zeros)
+    let due = (knows h o w0.token).due in let told = (knows h o w0.token).log in let at : WriterAt (knows h o w0.token) p due told = record { local = d.1; answer = refl; log = refl } in (
+      p,
+      g.O.Opens.opens,
+      answer_to (lies h o) p (opening_of g.O.Opens.opens),
+      told,
+      copies_start fl ba client root p s (record { is_root = can.is_root; apart = can.apart; room = can.room; once = can.once }) (with_spare (counters_in h o) (lies h o) p c.args.state.now s c.blank.ensures.room r) idles g.O.Opens.opens begins (knows h o w0.token) (knows h o c.begin.new.writer.token) (knows h o c.clear_rest.new.writer.token) due told at c.begin.ensures.step.knows_now c.clear_rest.ensures.steps.knows_now long c.blank.ensures.zeros,
+    )
 
 pub returns-clause-steps : goal.returns-clause-steps
 returns-clause-steps g c =

@@ -1,8 +1,5 @@
-use Rattle.std.proofs.Common.{◌≡◌, ℕ, ◌+◌, ◌^◌, ◌<◌, ◌≤◌, ◌⊎◌, List, [], ◌∷◌, ◌++◌, length, refl, sym, ap, ◌∙◌, subst, arith}
-use Rattle.ck_run.specs.declared.account.Step.TheVariants.{Load, Store}
-use Rattle.ck_run.specs.declared.account.Entry.{Entry}
-use Rattle.ck_run.specs.Run.{further, handing}
-use Rattle.ck_run.specs.Tokens.{table, adding}
+use Rattle.std.proofs.Common.{◌≡◌, ℕ, ◌+◌, ◌^◌, ◌<◌, ◌≤◌, List, [], ◌∷◌, length, refl, sym, ap, ◌∙◌, subst, arith}
+use Rattle.ck_run.specs.Tokens.{adding, table}
 use Rattle.ck_epoch.specs.State.{Retirement, state}
 use Rattle.ck_words.specs.Buddies.{Arena}
 use Rattle.ck_htlaw.specs.Actions.{answer_to}
@@ -12,9 +9,9 @@ use Rattle.ck_htlaw.specs.Known.{IsRoot, knows}
 use Rattle.ck_htlaw.specs.Layout.{log_of, region_item, IsFreeRegion}
 use Rattle.ck_htwrite.specs.declared.state.HtState.{HtState}
 use Rattle.ck_htwrite.specs.Arena.{IsArenaOfTable, IsKept, unreturned}
-use Rattle.ck_htwrite.specs.Rebuild.{CanHoldAll, CopiesAt, adopted_lists}
+use Rattle.ck_htwrite.specs.Rebuild.{CanHoldAll, CopiesAt, adopted_lists, rebuild_entries}
 use Rattle.ck_htwrite.specs.Writes.{counters_in, opened, WriterAt}
-use Rattle.ck_htwrite.proofs.Chains.{same_room, then_counted}
+use Rattle.ck_htwrite.proofs.Chains.{same_room, then_counted, one_retired}
 use Rattle.ck_htwrite.proofs.Rebuilding.{free_region, can_hold, with_arena, kept_after}
 use Rattle.ck_htwrite.proofs.growth.rebuild.Goals as goal
 
@@ -37,9 +34,14 @@ build-requires-clause-due g c =
     let h = host g.D.Client.meaning g.D.Within.place g.D.Within.part in let o = c.args.domain.now.origin in let n = counters_in h o in let l = lies h o in let place = h.place o.config.client in let w0 = c.args.writer.now in let s = c.args.state.now in let d = c.requires.due in let r = d.0 in let p = r.is_writer in let kept = c.requires.arena in
     let root : ℕ = c.in_ok-root.root in let z = c.take.new.self in let many = r.reflects.mirrors.shape.many in
     let ok : IsRoot n root = subst (λ (k : ℕ). IsRoot k root) many c.in_ok-root.ensures.root.0 in
-    let is : z ≡ record s { arena = z.arena } = c.in_ok-root.ensures.after ∙ ap (λ a. record s { arena = a }) (sym (ap (λ x. x.arena) c.in_ok-root.ensures.after)) in
-    (p, r.is, r.idles, with_arena n l p s z is r.reflects, d.1 root c.in_ok-root.ensures.root.1,
-    subst (λ (k : ℕ). IsFreeRegion n place k root (state w0.token).pending) (sym r.reflects.root) (free_region n place s.root root (state w0.token) w0.waiting s.arena kept ok c.in_ok-root.ensures.free.0))
+    let is : z ≡ record s { arena = z.arena } = c.in_ok-root.ensures.after ∙ ap (λ a. record s { arena = a }) (sym (ap (λ x. x.arena) c.in_ok-root.ensures.after)) in (
+      p,
+      r.is,
+      r.idles,
+      with_arena n l p s z is r.reflects,
+      d.1 root c.in_ok-root.ensures.root.1,
+      subst (λ (k : ℕ). IsFreeRegion n place k root (state w0.token).pending) (sym r.reflects.root) (free_region n place s.root root (state w0.token) w0.waiting s.arena kept ok c.in_ok-root.ensures.free.0),
+    )
 
 pub replace-requires-clause-table : goal.replace-requires-clause-table
 replace-requires-clause-table g c = ap (λ w. table w.token) c.build.ensures.steps.1.made ∙ c.requires.table
@@ -68,12 +70,27 @@ replace-requires-clause-due g c =
     let ok : IsRoot n root = subst (λ (k : ℕ). IsRoot k root) many c.in_ok-root.ensures.root.0 in
     let is : z ≡ record s { arena = z.arena } = c.in_ok-root.ensures.after ∙ ap (λ a. record s { arena = a }) (sym (ap (λ x. x.arena) c.in_ok-root.ensures.after)) in
     let at = c.build.ensures.at p (knows h o w0.token).due (knows h o w0.token).log (record { local = r.is; answer = refl; log = refl }) r.idles (with_arena n l p s z is r.reflects) (d.1 root c.in_ok-root.ensures.root.1) in
-    let answer = answer_to l p (opening_of g.O.Opens.opens) in
-    (p, g.O.Opens.opens, answer, (knows h o w0.token).log,
-    subst (λ (k : ℕ). CopiesAt n l (knows h o c.build.new.writer.token) p g.O.Opens.opens answer (knows h o w0.token).log c.build.new.state root (2 ^ log_of k)) (sym (ap (λ (x : HtState). x.root) c.build.ensures.state)) at, d.2)
+    let answer = answer_to l p (opening_of g.O.Opens.opens) in (
+      p,
+      g.O.Opens.opens,
+      answer,
+      (knows h o w0.token).log,
+      subst (λ (k : ℕ). CopiesAt n l (knows h o c.build.new.writer.token) p g.O.Opens.opens answer (knows h o w0.token).log c.build.new.state root (2 ^ log_of k)) (sym (ap (λ (x : HtState). x.root) c.build.ensures.state)) at,
+      d.2,
+    )
 
 pub returns-clause-steps : goal.returns-clause-steps
-returns-clause-steps g c = (_, then_counted c.args.writer.now c.build.new.writer c.replace.new.writer _ _ c.build.ensures.steps.1.made c.replace.ensures.steps.1)
+returns-clause-steps g c =
+    let h = host g.D.Client.meaning g.D.Within.place g.D.Within.part in let o = c.args.domain.now.origin in let l = lies h o in
+    let w0 = c.args.writer.now in let w3 = c.replace.new.writer in let ss = c.build.ensures.steps.0 in let epoch = c.replace.ensures.steps.0 in
+    let roots = ap (λ (x : HtState). x.root) c.build.ensures.state ∙ ap (λ (x : HtState). x.root) c.in_ok-root.ensures.after in
+    let made = then_counted w0 c.build.new.writer w3 _ _ c.build.ensures.steps.1.made c.replace.ensures.steps.1 in
+    (epoch, ss, subst (λ (z : ℕ × ℕ). w3 ≡ record w0 { token = adding w0.token (rebuild_entries l g.O.Opens.opens z.0 z.1 ss epoch); calls = w0.calls + 1 }) (λ i. (roots i, sym (ap (λ (x : HtState). x.root) c.replace.ensures.state) i)) made)
+
+pub returns-clause-retired : goal.returns-clause-retired
+returns-clause-retired g c =
+    let k = c.replace.ensures.retired in
+    one_retired (state c.build.new.writer.token).pending (state c.replace.new.writer.token).pending k.0 k.2 ∙ ap (λ (xs : List Retirement). length xs + 1) c.build.ensures.steps.1.same.0
 
 pub returns-clause-lists : goal.returns-clause-lists
 returns-clause-lists g c =

@@ -1,4 +1,4 @@
-use Rattle.std.proofs.Common.{◌≡◌, ℕ, suc, nat_lt, ◌+◌, ◌^◌, ◌<◌, ◌⊎◌, ⊎_elim, Bool, cond, List, [], ◌∷◌, ◌++◌, append-nil, length, refl, sym, ap, ◌∙◌, subst, arith}
+use Rattle.std.proofs.Common.{◌≡◌, ℕ, suc, nat_lt, ◌+◌, ◌^◌, ◌<◌, ⊎_elim, Bool, cond, List, [], ◌∷◌, ◌++◌, append-nil, length, refl, sym, ap, ◌∙◌, subst}
 use Rattle.ck_run.specs.declared.account.Step.TheVariants.{Load, Store}
 use Rattle.ck_run.specs.declared.account.Entry.{Entry}
 use Rattle.ck_run.specs.Run.{further, handing}
@@ -8,13 +8,13 @@ use Rattle.ck_epoch.specs.State.{Retirement, base_of, queue, state}
 use Rattle.ck_history.specs.declared.log.LogEntry.{LogEntry}
 use Rattle.ck_htlaw.specs.Host.{host, first, inner, lies}
 use Rattle.ck_htlaw.specs.Known.{knows}
-use Rattle.ck_htlaw.specs.Layout.{log_of, region_item}
+use Rattle.ck_htlaw.specs.Layout.{region_item}
 use Rattle.ck_htlaw.specs.Stages.{idle, copying, after_rebuild}
 use Rattle.ck_htlaw.specs.Table.{WriterState}
 use Rattle.ck_htwrite.specs.declared.state.HtState.{HtState}
-use Rattle.ck_htwrite.specs.Rebuild.{CopiesAt, GoesOnAfter, EndsAfter, adopted_lists}
+use Rattle.ck_htwrite.specs.Rebuild.{GoesOnAfter, EndsAfter, adopted_lists}
 use Rattle.ck_htwrite.specs.State.{Reflects}
-use Rattle.ck_htwrite.specs.Writes.{counters_in, IsFreeBy, MayStep, WriterAt, WriterIs}
+use Rattle.ck_htwrite.specs.Writes.{counters_in, IsFreeBy, WriterAt}
 use Rattle.ck_htwrite.proofs.Published.{goes_on_with, ends_with, publish_step, publish_at, tidy_step, tidy_at, adopted}
 use Rattle.ck_htwrite.proofs.Chains.{then_counted}
 use Rattle.ck_htwrite.proofs.Writing.{not_less, one_less}

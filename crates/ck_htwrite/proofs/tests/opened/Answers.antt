@@ -1,5 +1,6 @@
 use Rattle.std.proofs.Common.{◌≡◌, ℕ, ◌+◌, ◌*◌, [], replicate, ap, ◌∙◌, subst, sym}
 use Rattle.ck_epoch.specs.Itself.{itself}
+use Rattle.ck_epoch.specs.State.{state}
 use Rattle.ck_htlaw.specs.declared.client.HtClient.{HtClient}
 use Rattle.ck_htlaw.specs.Client.{table as table_client}
 use Rattle.ck_htlaw.specs.Host.{Host, host}
@@ -18,3 +19,8 @@ returns-clause-ready g c =
     (subst (λ (n : ℕ). IsShaped n s.state) many s.ensures.shape) (ap (λ x. x.root) s.ensures.state ∙ ap (λ (n : ℕ). 32 * arena n + 3) many) (ap (λ x. x.keys) s.ensures.state) (ap (λ x. x.tombstones) s.ensures.state)
     s.ensures.words (s.ensures.counters ∙ ap (λ (n : ℕ). replicate n 0) many)
     (subst (λ (n : ℕ). (place : ℕ) → IsKept n place s.state.root [] s.state.arena) many s.ensures.arena)
+
+pub returns-clause-room : goal.returns-clause-room
+returns-clause-room g c =
+    let d = c.in_ok-domain in
+    (ap (λ w. w.room) d.ensures.writer, ap (λ w. w.waiting) d.ensures.writer, ap (λ w. (state w.token).pending) d.ensures.writer)
