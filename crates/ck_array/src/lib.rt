@@ -3,6 +3,8 @@
 
 pub mod part;
 mod state;
+#[cfg(test)]
+mod tests;
 mod writing;
 
 pub use state::ArrayState;
