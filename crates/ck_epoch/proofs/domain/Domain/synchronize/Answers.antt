@@ -1,5 +1,5 @@
 use Rattle.std.proofs.Common.{◌+◌, ◌<◌, ◌^◌, false, refl, sym, ap, ◌∙◌, subst}
-use Rattle.ck_run.specs.Tokens.{table, origin, number}
+use Rattle.ck_run.specs.Tokens.{table, number}
 use Rattle.ck_epoch.specs.State.{Token, TokenState, records_of, synchronize, state}
 use Rattle.ck_epoch.specs.Rounds.{Rounds, HaveEnded}
 use Rattle.ck_epoch.proofs.TwoRounds.{is_free, both_after, ended_after}
