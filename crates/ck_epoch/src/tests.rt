@@ -117,7 +117,7 @@ pub(crate) fn one_reader<C: Client + Drop, F: Fn(Item) -> Back + Drop>(
 
 #[test]
 fn gives_back_once_the_older_section_ended(rt: HostRuntime) -> Result<(), Fail> {
-    let (domain, mut writer, mut pass) = one_reader(rt.alloc(), Counter, |item: Item| home(item))?;
+    let (domain, mut writer, mut pass) = one_reader(rt.alloc(), Counter, home)?;
     domain.begin(&mut pass);
     domain.call::<Brand, _>(&mut writer, BLOCK);
     assert_eq!(rt; domain.poll(&mut writer), Poll::Moved { n: 0, rec: 0 });
@@ -132,7 +132,7 @@ fn gives_back_once_the_older_section_ended(rt: HostRuntime) -> Result<(), Fail> 
 
 #[test]
 fn waits_for_the_outermost_section(rt: HostRuntime) -> Result<(), Fail> {
-    let (domain, mut writer, mut pass) = one_reader(rt.alloc(), Counter, |item: Item| home(item))?;
+    let (domain, mut writer, mut pass) = one_reader(rt.alloc(), Counter, home)?;
     domain.begin(&mut pass);
     domain.begin(&mut pass);
     domain.call::<Brand, _>(&mut writer, BLOCK);
@@ -146,7 +146,7 @@ fn waits_for_the_outermost_section(rt: HostRuntime) -> Result<(), Fail> {
 
 #[test]
 fn gives_back_beside_a_younger_section(rt: HostRuntime) -> Result<(), Fail> {
-    let (domain, mut writer, mut pass) = one_reader(rt.alloc(), Counter, |item: Item| home(item))?;
+    let (domain, mut writer, mut pass) = one_reader(rt.alloc(), Counter, home)?;
     domain.begin(&mut pass);
     domain.call::<Brand, _>(&mut writer, BLOCK);
     assert_eq!(rt; domain.poll(&mut writer), Poll::Moved { n: 0, rec: 0 });

@@ -14,7 +14,7 @@ use std::thread::join_mut;
 
 #[test]
 fn barrier_gives_back_what_is_pending(rt: HostRuntime) -> Result<(), Fail> {
-    let (domain, mut writer, mut pass) = one_reader(rt.alloc(), Counter, |item: Item| home(item))?;
+    let (domain, mut writer, mut pass) = one_reader(rt.alloc(), Counter, home)?;
     domain.call::<Brand, _>(&mut writer, BLOCK);
     assert_eq!(rt; domain.barrier(&rt, &mut writer), 1);
     assert_eq!(rt; domain.next_back(&mut writer), Some(home(BLOCK)));
@@ -79,7 +79,7 @@ fn barrier_waits_for_the_open_section(rt: HostRuntime) -> Result<(), Fail> {
 
 #[test]
 fn synchronize_returns_where_no_section_is_open(rt: HostRuntime) -> Result<(), Fail> {
-    let (domain, mut writer, mut pass) = one_reader(rt.alloc(), Counter, |item: Item| home(item))?;
+    let (domain, mut writer, mut pass) = one_reader(rt.alloc(), Counter, home)?;
     domain.call::<Brand, _>(&mut writer, BLOCK);
     domain.synchronize(&rt, &mut writer);
     assert_eq!(rt;
