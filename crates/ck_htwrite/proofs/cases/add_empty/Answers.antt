@@ -108,5 +108,8 @@ returns-clause-made g c r planned =
     let adding_is = adding_idle fl fi client p s r.reflects opens key value at c.requires.adds planned r.idles in
     let fits = room fl fi client p s r.reflects (let z = c.if-state-ge-MOST.false in omega arith) in
     let s1 = c.insert.new.state in let is = c.insert.ensures.state in
-    inl (made_insert h o w c.insert.new.writer s s1 r opens key value at c.requires.slot (about_insert fl fi client p s r.reflects opens pair adding_is fits c.is_roomy.result c.is_roomy.ensures c.if-not-is_roomy.false) c.requires.was fits (roomy_now fl fi client p s r.reflects c.is_roomy.result c.is_roomy.ensures c.if-not-is_roomy.false) c.insert.ensures.steps is,
-    ap (λ (x : HtState). x.root) is, ap (λ (x : HtState). x.arena) is)
+    inl (
+      made_insert h o w c.insert.new.writer s s1 r opens key value at c.requires.slot (about_insert fl fi client p s r.reflects opens pair adding_is fits c.is_roomy.result c.is_roomy.ensures c.if-not-is_roomy.false) c.requires.was fits (roomy_now fl fi client p s r.reflects c.is_roomy.result c.is_roomy.ensures c.if-not-is_roomy.false) c.insert.ensures.steps is,
+      ap (λ (x : HtState). x.root) is,
+      ap (λ (x : HtState). x.arena) is,
+    )

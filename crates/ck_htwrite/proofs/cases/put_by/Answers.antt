@@ -95,8 +95,12 @@ returns-in-Stand-clause-made g c r is =
     let p = r.is_writer in
     let key : ℕ = c.args.key in let value : ℕ = c.args.value in
     let few = (subst (IsIn (2 ^ log_of s.root)) c.in-Stand.is c.requires.inside) in let full = (subst (HasStates (view_of s.words.items)) c.in-Stand.is c.requires.states) in
-    inl (subst (λ (z : Plan). IsMade h o p (put_reply l p z) (PutSteps l p key value z) opens w (Has c.value_at.result) c.ask_root.new.writer s) (sym c.in-Stand.is)
-    (made_ask h o w c.ask_root.new.writer s s r opens (put_is l p r.idles key value (Stand c.in-Stand.at) (is ∙ c.in-Stand.is) opens c.requires.name) c.ask_root.result _ _ (ap Has (value_is h o w w s s r opens c.in-Stand.at few full c.value_at.result c.value_at.ensures)) (Asks l) (λ ss asks. asks) c.ask_root.ensures.step refl), refl, refl)
+    inl (
+      subst (λ (z : Plan). IsMade h o p (put_reply l p z) (PutSteps l p key value z) opens w (Has c.value_at.result) c.ask_root.new.writer s) (sym c.in-Stand.is)
+          (made_ask h o w c.ask_root.new.writer s s r opens (put_is l p r.idles key value (Stand c.in-Stand.at) (is ∙ c.in-Stand.is) opens c.requires.name) c.ask_root.result _ _ (ap Has (value_is h o w w s s r opens c.in-Stand.at few full c.value_at.result c.value_at.ensures)) (Asks l) (λ ss asks. asks) c.ask_root.ensures.step refl),
+      refl,
+      refl,
+    )
 
 pub ask_root-requires-in-Move-clause-due : goal.ask_root-requires-in-Move-clause-due
 ask_root-requires-in-Move-clause-due g c found =
@@ -126,5 +130,9 @@ returns-in-Move-clause-made g c r is =
     let p = r.is_writer in
     let key : ℕ = c.args.key in let value : ℕ = c.args.value in
     let few = (subst (IsIn (2 ^ log_of s.root)) c.in-Move.is c.requires.inside) in let full = (subst (HasStates (view_of s.words.items)) c.in-Move.is c.requires.states) in
-    inl (subst (λ (z : Plan). IsMade h o p (put_reply l p z) (PutSteps l p key value z) opens w (Has c.value_at-in-Move.result) c.ask_root-in-Move.new.writer s) (sym c.in-Move.is)
-    (made_ask h o w c.ask_root-in-Move.new.writer s s r opens (put_is l p r.idles key value (Move c.in-Move.to c.in-Move.from) (is ∙ c.in-Move.is) opens c.requires.name) c.ask_root-in-Move.result _ _ (ap Has (value_is h o w w s s r opens c.in-Move.from few.1 full.1 c.value_at-in-Move.result c.value_at-in-Move.ensures)) (Asks l) (λ ss asks. asks) c.ask_root-in-Move.ensures.step refl), refl, refl)
+    inl (
+      subst (λ (z : Plan). IsMade h o p (put_reply l p z) (PutSteps l p key value z) opens w (Has c.value_at-in-Move.result) c.ask_root-in-Move.new.writer s) (sym c.in-Move.is)
+          (made_ask h o w c.ask_root-in-Move.new.writer s s r opens (put_is l p r.idles key value (Move c.in-Move.to c.in-Move.from) (is ∙ c.in-Move.is) opens c.requires.name) c.ask_root-in-Move.result _ _ (ap Has (value_is h o w w s s r opens c.in-Move.from few.1 full.1 c.value_at-in-Move.result c.value_at-in-Move.ensures)) (Asks l) (λ ss asks. asks) c.ask_root-in-Move.ensures.step refl),
+      refl,
+      refl,
+    )

@@ -95,9 +95,12 @@ returns-in-Stand-clause-made g c r is =
     let p = r.is_writer in
     let key : ℕ = c.args.key in let value : ℕ = c.args.value in
     let few = (subst (IsIn (2 ^ log_of s.root)) c.in-Stand.is c.requires.inside) in let full = (subst (HasStates (view_of s.words.items)) c.in-Stand.is c.requires.states) in let s1 = c.put_word.new.state in let is1 = c.put_word.ensures.state in
-    inl (subst (λ (z : Plan). IsMade h o p (set_reply l p z) (SetSteps l p key value z) opens w (Was c.value_at-was.result) c.put_word.new.writer s1) (sym c.in-Stand.is)
-    (made_stand h o w c.put_word.new.writer s s1 r opens key value c.in-Stand.at few (set_is l p r.idles key value (Stand c.in-Stand.at) (is ∙ c.in-Stand.is) opens c.requires.name) full _ _ (ap Was (value_is h o w w s s r opens c.in-Stand.at few full c.value_at-was.result c.value_at-was.ensures)) c.put_word.ensures.step is1),
-    ap (λ (x : HtState). x.root) is1, ap (λ (x : HtState). x.arena) is1)
+    inl (
+      subst (λ (z : Plan). IsMade h o p (set_reply l p z) (SetSteps l p key value z) opens w (Was c.value_at-was.result) c.put_word.new.writer s1) (sym c.in-Stand.is)
+          (made_stand h o w c.put_word.new.writer s s1 r opens key value c.in-Stand.at few (set_is l p r.idles key value (Stand c.in-Stand.at) (is ∙ c.in-Stand.is) opens c.requires.name) full _ _ (ap Was (value_is h o w w s s r opens c.in-Stand.at few full c.value_at-was.result c.value_at-was.ensures)) c.put_word.ensures.step is1),
+      ap (λ (x : HtState). x.root) is1,
+      ap (λ (x : HtState). x.arena) is1,
+    )
 
 pub value_at-was-requires-in-Move : goal.value_at-was-requires-in-Move
 value_at-was-requires-in-Move g c =
@@ -128,6 +131,9 @@ returns-in-Move-clause-made g c r is =
     let p = r.is_writer in
     let key : ℕ = c.args.key in let value : ℕ = c.args.value in
     let few = (subst (IsIn (2 ^ log_of s.root)) c.in-Move.is c.requires.inside) in let full = (subst (HasStates (view_of s.words.items)) c.in-Move.is c.requires.states) in let s1 = c.move_key.new.state in let is1 = c.move_key.ensures.state in
-    inl (subst (λ (z : Plan). IsMade h o p (set_reply l p z) (SetSteps l p key value z) opens w (Was c.value_at-was-in-Move.result) c.move_key.new.writer s1) (sym c.in-Move.is)
-    (made_move h o w c.move_key.new.writer s s1 r opens key value c.in-Move.to c.in-Move.from few.0 few.1 (set_is l p r.idles key value (Move c.in-Move.to c.in-Move.from) (is ∙ c.in-Move.is) opens c.requires.name) full.0 full.1 _ _ (ap Was (value_is h o w w s s r opens c.in-Move.from few.1 full.1 c.value_at-was-in-Move.result c.value_at-was-in-Move.ensures)) c.move_key.ensures.steps is1),
-    ap (λ (x : HtState). x.root) is1, ap (λ (x : HtState). x.arena) is1)
+    inl (
+      subst (λ (z : Plan). IsMade h o p (set_reply l p z) (SetSteps l p key value z) opens w (Was c.value_at-was-in-Move.result) c.move_key.new.writer s1) (sym c.in-Move.is)
+          (made_move h o w c.move_key.new.writer s s1 r opens key value c.in-Move.to c.in-Move.from few.0 few.1 (set_is l p r.idles key value (Move c.in-Move.to c.in-Move.from) (is ∙ c.in-Move.is) opens c.requires.name) full.0 full.1 _ _ (ap Was (value_is h o w w s s r opens c.in-Move.from few.1 full.1 c.value_at-was-in-Move.result c.value_at-was-in-Move.ensures)) c.move_key.ensures.steps is1),
+      ap (λ (x : HtState). x.root) is1,
+      ap (λ (x : HtState). x.arena) is1,
+    )
