@@ -28,10 +28,10 @@ use Rattle.ck_htlaw.specs.Linearized.{map_after}
 use Rattle.ck_htlaw.specs.Known.{knows}
 use Rattle.ck_htwrite.specs.declared.state.HtState.{HtState}
 use Rattle.ck_htwrite.specs.declared.state.Need.{Need}
-use Rattle.ck_htwrite.specs.Arena.{IsKept, unreturned}
+use Rattle.ck_htwrite.specs.Arena.{HasNoneFree, IsKept, unreturned}
 use Rattle.ck_htwrite.specs.State.{IsReady, Ready, counter_at, next_count}
 use Rattle.ck_htplan.specs.declared.cases.Plan.{Plan}
-use Rattle.ck_htwrite.specs.Updates.{IsDone, IsGrown, IsMade, IsOver, Makes}
+use Rattle.ck_htwrite.specs.Updates.{IsDone, IsGrown, IsMade, IsOver, IsRebuildDue, Makes, needed_log}
 use Rattle.ck_htwrite.specs.Writes.{opened, Steps, WriterIs, counters_in}
 use Rattle.ck_htwrite.proofs.Agree.{agree, agree_now}
 use Rattle.ck_htwrite.proofs.Facts.{absent, empty_after, has_hole, few_bumps, log_is, right, keys_once}
@@ -164,6 +164,9 @@ module _ {D : Type 0} (h : Host D) (within : IsWithin table h.client h.place h.p
         (λ (x : Made). let e : w'.calls ≡ w.calls = ap (λ (v : Writer D F). v.calls) x.0.made.made in (omega arith, omega arith))
         (λ (x : Grown). let e : w'.calls ≡ w.calls + 1 = ap (λ (v : Writer D F). v.calls) x.made in (omega arith, omega arith))
         done
+
+    pub done_free : ((ss : List Step) → AreSteps ss → IsRebuildDue l from plan → ⊥) → IsRebuildDue l from plan → HasNoneFree s.arena (needed_log l from) → ⊥
+    done_free apart due none = ⊎_elim (λ (x : Made). apart x.0.steps x.0.are due) (λ (x : Grown). x.free none) done
 
     pub done_pending : length (state w'.token).pending ≤ length (state w.token).pending + 1
     done_pending = ⊎_elim
