@@ -1,5 +1,5 @@
 -- The writer's end between two calls.
-use Rattle.std.proofs.Common.{◌≡◌, ℕ, ◌+◌, ◌^◌, ◌<◌, ◌≤◌, List, [], ◌∷◌, length, length-append, refl, sym, ap, ◌∙◌, subst, arith, ◌⊎◌, ⊎_elim, inl, inr}
+use Rattle.std.proofs.Common.{◌≡◌, ℕ, ◌+◌, ◌^◌, ◌<◌, ◌≤◌, List, [], ◌∷◌, length, length-append, refl, sym, ap, ◌∙◌, subst, arith, ⊎_elim, inl, inr}
 use Rattle.std.specs.Prelude.{IfErr, MatchResult, None}
 use Rattle.std.specs.Result.{IsErrAnd}
 use Rattle.std.specs.declared.result.Result.{Result}
@@ -13,8 +13,7 @@ use Rattle.ck_history.specs.declared.update.Reply.{Reply}
 use Rattle.ck_history.specs.Map.{find, step}
 use Rattle.ck_htplan.specs.declared.cases.Plan.TheVariants.{Empty}
 use Rattle.ck_htlaw.specs.Stages.{after_rebuild}
-use Rattle.ck_slots.specs.Slots.{SlotsView}
-use Rattle.ck_epoch.specs.State.{Origin, Token, Retirement, base_of, state, queue}
+use Rattle.ck_epoch.specs.State.{Origin, Token, Retirement, base_of, state}
 use Rattle.ck_epoch.specs.Ends.{Writer, IsDomainToken}
 use Rattle.ck_epoch.specs.Within.{IsWithin}
 use Rattle.ck_htplan.specs.Region.{view_of}
@@ -23,7 +22,7 @@ use Rattle.ck_htlaw.specs.Calls.{Opening, opening_of}
 use Rattle.ck_htlaw.specs.Layout.{log_of}
 use Rattle.ck_htlaw.specs.Table.{Layout, WriterState, writer, view}
 use Rattle.ck_htlaw.specs.Actions.{most, answer_to, plan_now, slots_now, tombstones_now}
-use Rattle.ck_htlaw.specs.Client.{Answers, table}
+use Rattle.ck_htlaw.specs.Client.{table}
 use Rattle.ck_htlaw.specs.Linearized.{map_after}
 use Rattle.ck_htlaw.specs.Known.{knows}
 use Rattle.ck_htwrite.specs.declared.state.HtState.{HtState}

@@ -21,7 +21,6 @@ use Rattle.ck_htlaw.specs.Table.{Layout, WriterState, inserts, nothing, begins_r
 use Rattle.ck_htlaw.specs.Actions.{most, action, by_stage, goes_in, keys_now, tombstones_now, plan_now, root_at, to_set, to_put, to_remove}
 use Rattle.ck_htlaw.specs.Client.{orders_of, hash_of}
 use Rattle.ck_htwrite.specs.declared.state.HtState.{HtState}
-use Rattle.ck_htwrite.specs.declared.state.Need.{Need}
 use Rattle.ck_htwrite.specs.State.{Reflects}
 use Rattle.ck_htwrite.specs.Updates.{AddsFresh, Asks, IsIn, HasStates, InsertSteps, IsAdding, IsRebuildDue, IsRoomy, PutSteps, SetSteps, insert_steps}
 use Rattle.ck_htwrite.proofs.Agree.{keys_are, tombstones_are}

@@ -1,20 +1,20 @@
-use Rattle.std.proofs.Common.{◌≡◌, ℕ, ◌+◌, ◌^◌, ◌<◌, ◌≤◌, List, [], ◌∷◌, ◌++◌, length, refl, sym, ap, ◌∙◌, subst, arith}
+use Rattle.std.proofs.Common.{◌≡◌, ℕ, ◌+◌, ◌≤◌, List, [], ◌∷◌, ◌++◌, length, sym, ap, ◌∙◌, subst, arith}
 use Rattle.ck_run.specs.declared.account.Entry.{Entry}
 use Rattle.ck_run.specs.declared.account.Step.{Step}
 use Rattle.ck_run.specs.Tokens.{table, adding}
 use Rattle.ck_epoch.specs.State.{state}
 use Rattle.ck_history.specs.declared.update.Reply.{Reply}
-use Rattle.ck_history.specs.declared.update.Update.TheVariants.{Set, Put}
+use Rattle.ck_history.specs.declared.update.Update.TheVariants.{Set}
 use Rattle.ck_htplan.specs.declared.cases.Plan.{Plan}
 use Rattle.ck_htlaw.specs.Host.{host, lies}
-use Rattle.ck_htlaw.specs.Calls.{opening_of, setting, putting, set, put}
+use Rattle.ck_htlaw.specs.Calls.{setting, set}
 use Rattle.ck_htlaw.specs.Table.{WriterState}
-use Rattle.ck_htlaw.specs.Actions.{plan_now, set_reply, put_reply}
+use Rattle.ck_htlaw.specs.Actions.{plan_now, set_reply}
 use Rattle.ck_htlaw.specs.Known.{knows}
 use Rattle.ck_htwrite.specs.declared.state.Need.{Need}
 use Rattle.ck_htwrite.specs.Arena.{HasNoneFree}
 use Rattle.ck_htwrite.specs.State.{Ready}
-use Rattle.ck_htwrite.specs.Updates.{SetSteps, PutSteps, IsNeeded, IsRebuildDue, Makes, needed_log}
+use Rattle.ck_htwrite.specs.Updates.{SetSteps, IsNeeded, IsRebuildDue, Makes, needed_log}
 use Rattle.ck_htwrite.specs.Writes.{WriterIs}
 use Rattle.ck_htwrite.proofs.Plans.{not_due_set}
 use Rattle.ck_htwrite.proofs.Between.{if_err, answers, small, same_writer, done_reply, done_over, done_made, done_calls, done_free, done_pending, done_ready}
