@@ -1,26 +1,19 @@
-use Rattle.std.proofs.Common.{◌≡◌, ℕ, ◌+◌, ◌*◌, ◌^◌, ◌<◌, ◌≤◌, Bool, true, false, nat_le, List, [], ◌∷◌, inl, inr, refl, sym, ap, ◌∙◌, subst, arith}
+use Rattle.std.proofs.Common.{ℕ, ◌^◌, List, inl, refl, sym, ap, ◌∙◌, subst, arith}
 use Rattle.std.specs.Prelude.{MatchResult}
-use Rattle.std.proofs.lemmas.Bool.Decides.{nat_tests}
-use Rattle.ck_run.specs.declared.account.Step.{Step}
-use Rattle.ck_history.specs.declared.update.Reply.TheVariants.{Fresh, Full, Was, Has, Missing}
+use Rattle.ck_history.specs.declared.update.Reply.TheVariants.{Has}
 use Rattle.ck_epoch.specs.State.{base_of}
 use Rattle.ck_htplan.specs.declared.cases.Plan.{Plan}
-use Rattle.ck_htplan.specs.declared.cases.Plan.TheVariants.{Empty, Reuse, Stand, Move}
+use Rattle.ck_htplan.specs.declared.cases.Plan.TheVariants.{Reuse, Stand, Move}
 use Rattle.ck_htplan.specs.Region.{view_of}
-use Rattle.ck_htlaw.specs.Calls.{opening_of, set, put}
 use Rattle.ck_htlaw.specs.Host.{host, first, inner, lies}
-use Rattle.ck_htlaw.specs.Stages.{Insertion, empty, reuse as reusing}
 use Rattle.ck_htlaw.specs.Layout.{log_of}
-use Rattle.ck_htlaw.specs.Table.{publishes}
-use Rattle.ck_htlaw.specs.Actions.{adds, added, by_call, set_reply, put_reply, to_set, to_put, when_copied}
-use Rattle.ck_htwrite.specs.declared.state.HtState.{HtState}
+use Rattle.ck_htlaw.specs.Actions.{put_reply}
 use Rattle.ck_htwrite.specs.Rebuild.{GoesOnAfter}
-use Rattle.ck_htwrite.specs.Updates.{AddsFresh, Asks, IsDone, IsIn, HasStates, IsMade, IsNeeded, InsertSteps, ReuseSteps, SetSteps, PutSteps}
+use Rattle.ck_htwrite.specs.Updates.{AddsFresh, Asks, IsDone, IsIn, HasStates, IsMade, IsNeeded, PutSteps}
 use Rattle.ck_htwrite.specs.Writes.{counters_in}
 use Rattle.ck_htwrite.proofs.Slots.{item_in}
-use Rattle.ck_htwrite.proofs.Growing.{adding_idle, roomy_now}
-use Rattle.ck_htwrite.proofs.Plans.{room, no_room, keys_few, tombstones_few, about_nothing, about_insert, about_reuse, adds_set, adds_put, set_is, put_is}
-use Rattle.ck_htwrite.proofs.Made.{done_grown, may_insert, made_insert, may_stand, made_stand, may_move, made_move, may_ask, made_ask, made_full, value_is}
+use Rattle.ck_htwrite.proofs.Plans.{adds_put, put_is}
+use Rattle.ck_htwrite.proofs.Made.{may_ask, made_ask, value_is}
 use Rattle.ck_htwrite.proofs.cases.put_by.Goals as goal
 
 pub add_empty-requires-clause-goes_on : goal.add_empty-requires-clause-goes_on
