@@ -1,4 +1,4 @@
-use Rattle.std.proofs.Common.{◌-◌, ◌^◌, ◌≤◌, ℕ, refl, arith}
+use Rattle.std.proofs.Common.{refl, arith}
 use Rattle.ck_ht.proofs.Sizes.{few_counters}
 use Rattle.ck_ht.proofs.table.Ht.with_room.Goals as goal
 
