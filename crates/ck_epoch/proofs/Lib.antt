@@ -1,4 +1,5 @@
-mod Emptying
+pub mod Emptying
+pub mod Looks
 pub mod FourLists
 pub mod OpenSections
 pub mod Timely

@@ -3,22 +3,25 @@
 ghost use Rattle.std.specs.Prelude.{◌≡◌, ◌<◌, ◌≤◌};
 ghost use Rattle.ck_epoch.specs.State.{base, active_word as active, epoch_word as epoch};
 
-pub(crate) const GLOBAL: usize = 0;
+/// The word of the global epoch.
+pub const GLOBAL: usize = 0;
 
 /// How many words the words that one reader stores are away from those of others: two cache lines.
 pub const STRIDE: u64 = 16;
 
 /// The epoch at which a domain begins.
-pub(crate) const FIRST_EPOCH: u64 = 4;
+pub const FIRST_EPOCH: u64 = 4;
 
-pub(crate) fn active_word(rec: u64) -> usize
+/// The word in which a record counts its open sections.
+pub fn active_word(rec: u64) -> usize
     requires { rec < 64 }
     ensures { result ≡ active rec }
 {
     (STRIDE * (rec + 1)) as usize
 }
 
-pub(crate) fn epoch_word(rec: u64) -> usize
+/// The word of a record's epoch.
+pub fn epoch_word(rec: u64) -> usize
     requires { rec < 64 }
     ensures { result ≡ epoch rec }
 {

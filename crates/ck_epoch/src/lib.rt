@@ -35,4 +35,4 @@ pub use domain::Domain;
 pub use ends::{Pass, Writer};
 pub use item::{Item, Retired};
 pub use laws::reclamation_law;
-pub use layout::STRIDE;
+pub use layout::{FIRST_EPOCH, GLOBAL, STRIDE, active_word, epoch_word};
