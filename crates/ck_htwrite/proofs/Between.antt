@@ -1,5 +1,5 @@
 -- The writer's end between two calls.
-use Rattle.std.proofs.Common.{◌≡◌, ℕ, ◌+◌, ◌^◌, ◌<◌, ◌≤◌, List, [], ◌∷◌, length, length-append, refl, sym, ap, ◌∙◌, subst, arith, ◌⊎◌, ⊎_elim, inl, inr}
+use Rattle.std.proofs.Common.{◌≡◌, ℕ, ◌+◌, ◌^◌, ◌<◌, ◌≤◌, List, [], ◌∷◌, length, length-append, refl, sym, ap, ◌∙◌, subst, arith, ⊎_elim, inl, inr}
 use Rattle.std.specs.Prelude.{IfErr, MatchResult, None}
 use Rattle.std.specs.Result.{IsErrAnd}
 use Rattle.std.specs.declared.result.Result.{Result}
@@ -13,8 +13,7 @@ use Rattle.ck_history.specs.declared.update.Reply.{Reply}
 use Rattle.ck_history.specs.Map.{find, step}
 use Rattle.ck_htplan.specs.declared.cases.Plan.TheVariants.{Empty}
 use Rattle.ck_htlaw.specs.Stages.{after_rebuild}
-use Rattle.ck_slots.specs.Slots.{SlotsView}
-use Rattle.ck_epoch.specs.State.{Origin, Token, Retirement, base_of, state, queue}
+use Rattle.ck_epoch.specs.State.{Origin, Token, Retirement, base_of, state}
 use Rattle.ck_epoch.specs.Ends.{Writer, IsDomainToken}
 use Rattle.ck_epoch.specs.Within.{IsWithin}
 use Rattle.ck_htplan.specs.Region.{view_of}
@@ -23,15 +22,15 @@ use Rattle.ck_htlaw.specs.Calls.{Opening, opening_of}
 use Rattle.ck_htlaw.specs.Layout.{log_of}
 use Rattle.ck_htlaw.specs.Table.{Layout, WriterState, writer, view}
 use Rattle.ck_htlaw.specs.Actions.{most, answer_to, plan_now, slots_now, tombstones_now}
-use Rattle.ck_htlaw.specs.Client.{Answers, table}
+use Rattle.ck_htlaw.specs.Client.{table}
 use Rattle.ck_htlaw.specs.Linearized.{map_after}
 use Rattle.ck_htlaw.specs.Known.{knows}
 use Rattle.ck_htwrite.specs.declared.state.HtState.{HtState}
 use Rattle.ck_htwrite.specs.declared.state.Need.{Need}
-use Rattle.ck_htwrite.specs.Arena.{IsKept, unreturned}
+use Rattle.ck_htwrite.specs.Arena.{HasNoneFree, IsKept, unreturned}
 use Rattle.ck_htwrite.specs.State.{IsReady, Ready, counter_at, next_count}
 use Rattle.ck_htplan.specs.declared.cases.Plan.{Plan}
-use Rattle.ck_htwrite.specs.Updates.{IsDone, IsGrown, IsMade, IsOver, Makes}
+use Rattle.ck_htwrite.specs.Updates.{IsDone, IsGrown, IsMade, IsOver, IsRebuildDue, Makes, needed_log}
 use Rattle.ck_htwrite.specs.Writes.{opened, Steps, WriterIs, counters_in}
 use Rattle.ck_htwrite.proofs.Agree.{agree, agree_now}
 use Rattle.ck_htwrite.proofs.Facts.{absent, empty_after, has_hole, few_bumps, log_is, right, keys_once}
@@ -164,6 +163,9 @@ module _ {D : Type 0} (h : Host D) (within : IsWithin table h.client h.place h.p
         (λ (x : Made). let e : w'.calls ≡ w.calls = ap (λ (v : Writer D F). v.calls) x.0.made.made in (omega arith, omega arith))
         (λ (x : Grown). let e : w'.calls ≡ w.calls + 1 = ap (λ (v : Writer D F). v.calls) x.made in (omega arith, omega arith))
         done
+
+    pub done_free : ((ss : List Step) → AreSteps ss → IsRebuildDue l from plan → ⊥) → IsRebuildDue l from plan → HasNoneFree s.arena (needed_log l from) → ⊥
+    done_free apart due none = ⊎_elim (λ (x : Made). apart x.0.steps x.0.are due) (λ (x : Grown). x.free none) done
 
     pub done_pending : length (state w'.token).pending ≤ length (state w.token).pending + 1
     done_pending = ⊎_elim

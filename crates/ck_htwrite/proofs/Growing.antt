@@ -1,5 +1,5 @@
 -- A fresh key after a rebuild.
-use Rattle.std.proofs.Common.{◌≡◌, ◌≢◌, ℕ, ◌+◌, ◌*◌, ◌^◌, ◌<◌, ◌≤◌, Bool, true, false, cond, nat_lt, nat_le, List, [], ◌∷◌, refl, sym, ap, ◌∙◌, subst, arith, pow-add}
+use Rattle.std.proofs.Common.{◌≡◌, ◌≢◌, ℕ, ◌+◌, ◌*◌, ◌^◌, ◌<◌, ◌≤◌, Bool, true, false, cond, nat_lt, nat_le, List, [], refl, sym, ap, ◌∙◌, arith, pow-add}
 use mathlib.Core.Logic.{dite}
 use native.Mathlib.Decide.{ℕ_discrete}
 use Rattle.std.proofs.lemmas.Bool.Decides.{nat_tests}
@@ -7,7 +7,7 @@ use Rattle.std.proofs.Math.Nat.{pow-le-pow_right}
 use Rattle.ck_run.specs.declared.account.Step.{Step}
 use Rattle.ck_run.specs.Range.{word_of}
 use Rattle.ck_run.specs.Run.{entry}
-use Rattle.ck_slots.specs.Counting.{count as how_many, used, rebuilt_log}
+use Rattle.ck_slots.specs.Counting.{rebuilt_log}
 use Rattle.ck_slots.proofs.Counts.{used_below, count_used}
 use Rattle.ck_htplan.specs.declared.cases.Plan.TheVariants.{Empty}
 use Rattle.ck_htplan.specs.Region.{view_of}
@@ -15,7 +15,7 @@ use Rattle.ck_htlaw.specs.declared.client.HtClient.{HtClient}
 use Rattle.ck_htlaw.specs.Stages.{Insertion, empty, Stage, idle, after_rebuild}
 use Rattle.ck_htlaw.specs.Layout.{log_of, counters_of, layout}
 use Rattle.ck_htlaw.specs.Table.{Layout, WriterState, inserts, begins_rebuild}
-use Rattle.ck_htlaw.specs.Actions.{action, by_stage, keys_now, tombstones_now, most, plan_now, root_at}
+use Rattle.ck_htlaw.specs.Actions.{action, by_stage, keys_now, plan_now, root_at}
 use Rattle.ck_htlaw.specs.Client.{orders_of}
 use Rattle.ck_htwrite.specs.declared.state.HtState.{HtState}
 use Rattle.ck_htwrite.specs.Rebuild.{BeginsRebuildAt}

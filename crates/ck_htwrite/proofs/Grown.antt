@@ -1,5 +1,5 @@
 -- A call that rebuilds the map, and then puts a fresh key into an empty slot.
-use Rattle.std.proofs.Common.{◌≡◌, ℕ, ◌+◌, ◌*◌, ◌^◌, ◌<◌, ◌≤◌, true, cond, nat_lt, Bool, List, [], ◌∷◌, ◌++◌, length, map, refl, sym, ap, ◌∙◌, subst, arith}
+use Rattle.std.proofs.Common.{◌≡◌, ℕ, ◌+◌, ◌*◌, ◌^◌, ◌<◌, ◌≤◌, cond, Bool, List, [], ◌++◌, length, map, refl, sym, ap, ◌∙◌, subst, arith}
 use Rattle.std.specs.Prelude.{None}
 use Rattle.std.specs.Ordering.{nat_cmp}
 use Rattle.ck_run.specs.declared.account.Step.{Step}
@@ -23,7 +23,7 @@ use Rattle.ck_htlaw.specs.Calls.{opening_of}
 use Rattle.ck_htlaw.specs.Stages.{Insertion, Stage, empty, after_rebuild}
 use Rattle.ck_htlaw.specs.Layout.{log_of}
 use Rattle.ck_htlaw.specs.Table.{Layout, WriterState, inserts}
-use Rattle.ck_htlaw.specs.Actions.{action, added, answer_to, keys_now, most, plan_now, tombstones_now}
+use Rattle.ck_htlaw.specs.Actions.{action, added, answer_to, plan_now}
 use Rattle.ck_htlaw.specs.Client.{Answers, answers_next, table}
 use Rattle.ck_htlaw.specs.Linearized.{map_after}
 use Rattle.ck_htlaw.specs.Known.{knows}
@@ -32,8 +32,8 @@ use Rattle.ck_htwrite.specs.declared.state.Need.{Need}
 use Rattle.ck_htwrite.specs.Arena.{HasNoneFree, IsKept, unreturned}
 use Rattle.ck_htwrite.specs.Rebuild.{Rebuilt, rebuild_entries}
 use Rattle.ck_htwrite.specs.State.{IsReady}
-use Rattle.ck_htwrite.specs.Updates.{AddsFresh, AreGrowing, IsGrown, IsNeeded, IsOver, IsRebuildDue, MayBegin, insert_steps, inserted_lists, needed_log, settled}
-use Rattle.ck_htwrite.specs.Writes.{MayMake, Steps, WriterAt, counters_in}
+use Rattle.ck_htwrite.specs.Updates.{AddsFresh, IsGrown, IsNeeded, IsOver, MayBegin, insert_steps, inserted_lists, needed_log, settled}
+use Rattle.ck_htwrite.specs.Writes.{MayMake, Steps, counters_in}
 use Rattle.ck_htwrite.proofs.Agree.{tombstones_are}
 use Rattle.ck_htwrite.proofs.Between.{next_plan, not_found}
 use Rattle.ck_htwrite.proofs.Finishing.{can_insert, insert_over}

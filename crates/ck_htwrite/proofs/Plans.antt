@@ -1,5 +1,6 @@
 -- The plan of an update on the writer's lists, and which case it is.
 use Rattle.std.proofs.Common.{◌≡◌, ℕ, ◌+◌, ◌*◌, ◌^◌, ◌<◌, ◌≤◌, Bool, true, false, cond, nat_lt, nat_le, List, [], ◌∷◌, sym, ap, ◌∙◌, subst, arith}
+use Rattle.std.specs.Prelude.{MatchBool}
 use Rattle.std.proofs.lemmas.Bool.Decides.{nat_tests}
 use Rattle.std.proofs.Math.Nat.{pow-le-pow_right}
 use Rattle.ck_run.specs.declared.account.Step.{Step}
@@ -20,9 +21,8 @@ use Rattle.ck_htlaw.specs.Table.{Layout, WriterState, inserts, nothing, begins_r
 use Rattle.ck_htlaw.specs.Actions.{most, action, by_stage, goes_in, keys_now, tombstones_now, plan_now, root_at, to_set, to_put, to_remove}
 use Rattle.ck_htlaw.specs.Client.{orders_of, hash_of}
 use Rattle.ck_htwrite.specs.declared.state.HtState.{HtState}
-use Rattle.ck_htwrite.specs.declared.state.Need.{Need}
 use Rattle.ck_htwrite.specs.State.{Reflects}
-use Rattle.ck_htwrite.specs.Updates.{AddsFresh, IsIn, HasStates, IsAdding}
+use Rattle.ck_htwrite.specs.Updates.{AddsFresh, Asks, IsIn, HasStates, InsertSteps, IsAdding, IsRebuildDue, IsRoomy, PutSteps, SetSteps, insert_steps}
 use Rattle.ck_htwrite.proofs.Agree.{keys_are, tombstones_are}
 use Rattle.ck_htwrite.proofs.Slots.{count_most}
 
@@ -109,3 +109,14 @@ adds_set key value l p at planned word = ap (λ (q : Plan). to_set l p q key val
 
 pub adds_put : (key value : ℕ) → AddsFresh (putting ∷ key ∷ value ∷ []) key value
 adds_put key value l p at planned word = ap (λ (q : Plan). to_put l p q key value word) planned
+
+-- a call that made the steps of its plan had no rebuild due
+module _ (l : Layout) (p : WriterState) (key value : ℕ) (plan : Plan) (ss : List Step) (due : IsRebuildDue l p plan) where
+  not_due : InsertSteps l p key value due.slot ss → ⊥
+  not_due are = due.full (subst (λ (b : Bool). MatchBool b (IsRoomy l p × (ss ≡ insert_steps l p.root due.slot key value)) (Asks l ss)) due.room are).0
+
+  pub not_due_set : SetSteps l p key value plan ss → ⊥
+  not_due_set are = not_due (subst (λ (q : Plan). SetSteps l p key value q ss) due.fresh are)
+
+  pub not_due_put : PutSteps l p key value plan ss → ⊥
+  not_due_put are = not_due (subst (λ (q : Plan). PutSteps l p key value q ss) due.fresh are)

@@ -1,5 +1,5 @@
 -- What an update stores and answers, by its plan.
-use Rattle.std.specs.Prelude.{◌≡◌, ℕ, suc, ◌+◌, ◌-◌, ◌*◌, ◌^◌, ◌<◌, ◌≤◌, ◌⊎◌, Bool, nat_lt, List, [], ◌∷◌, ◌++◌, length, map, MatchBool, set, slice_index, true}
+use Rattle.std.specs.Prelude.{◌≡◌, ℕ, suc, ◌+◌, ◌-◌, ◌*◌, ◌<◌, ◌≤◌, ◌⊎◌, Bool, nat_lt, List, [], ◌∷◌, ◌++◌, length, map, MatchBool, set, slice_index, true}
 use Rattle.std.specs.Vec.{with_item}
 use Rattle.ck_run.specs.declared.account.Step.{Step}
 use Rattle.ck_run.specs.declared.account.Step.TheVariants.{Load, Store}

@@ -13,8 +13,9 @@ ghost use Rattle.ck_htlaw.specs.Table.{WriterState};
 ghost use Rattle.ck_htlaw.specs.Actions.{most, plan_now};
 ghost use Rattle.ck_htlaw.specs.Linearized.{map_after};
 ghost use Rattle.ck_htlaw.specs.Known.{knows};
+ghost use Rattle.ck_htwrite.specs.Arena.{HasNoneFree};
 ghost use Rattle.ck_htwrite.specs.State.{Ready};
-ghost use Rattle.ck_htwrite.specs.Updates.{SetSteps, PutSteps, RemoveSteps, IsNeeded, Makes};
+ghost use Rattle.ck_htwrite.specs.Updates.{SetSteps, PutSteps, RemoveSteps, IsNeeded, IsRebuildDue, Makes, needed_log};
 ghost use Rattle.ck_htwrite.specs.Writes.{WriterIs, opened};
 
 use crate::cases::{plan_for, put_by, remove_by, set_by};
@@ -47,6 +48,7 @@ pub fn set<D: Within<HtClient>, F>(
     ensures log { IfOk result (λ r. (knows (host D.meaning D.place D.part) domain.now.origin writer.new.token).log ≡ (knows (host D.meaning D.place D.part) domain.now.origin writer.old.token).log ++ record { update = Set key value; reply = r } ∷ []) }
     ensures steps { IfOk result (λ r. (p : WriterState) → WriterIs (host D.meaning D.place D.part) domain.now.origin writer.old.token p → (es : List Entry) × Makes (lies (host D.meaning D.place D.part) domain.now.origin) p (SetSteps (lies (host D.meaning D.place D.part) domain.now.origin) p key value (plan_now (lies (host D.meaning D.place D.part) domain.now.origin) p key)) (plan_now (lies (host D.meaning D.place D.part) domain.now.origin) p key) (setting ∷ key ∷ value ∷ []) key value es × (writer.new.token ≡ adding writer.old.token es)) }
     ensures need { IfErr result (λ need. (p : WriterState) → WriterIs (host D.meaning D.place D.part) domain.now.origin writer.old.token p → IsNeeded (host D.meaning D.place D.part) domain.now.origin p (plan_now (lies (host D.meaning D.place D.part) domain.now.origin) p key) state.old need) }
+    ensures free { IfOk result (λ r. (p : WriterState) → WriterIs (host D.meaning D.place D.part) domain.now.origin writer.old.token p → IsRebuildDue (lies (host D.meaning D.place D.part) domain.now.origin) p (plan_now (lies (host D.meaning D.place D.part) domain.now.origin) p key) → HasNoneFree state.old.arena (needed_log (lies (host D.meaning D.place D.part) domain.now.origin) p) → ⊥) }
     ensures ready { Ready (host D.meaning D.place D.part) domain.now.origin writer.new state.new }
 {
     let _updates = writer.tally();
@@ -78,6 +80,7 @@ pub fn put<D: Within<HtClient>, F>(
     ensures log { IfOk result (λ r. (knows (host D.meaning D.place D.part) domain.now.origin writer.new.token).log ≡ (knows (host D.meaning D.place D.part) domain.now.origin writer.old.token).log ++ record { update = Put key value; reply = r } ∷ []) }
     ensures steps { IfOk result (λ r. (p : WriterState) → WriterIs (host D.meaning D.place D.part) domain.now.origin writer.old.token p → (es : List Entry) × Makes (lies (host D.meaning D.place D.part) domain.now.origin) p (PutSteps (lies (host D.meaning D.place D.part) domain.now.origin) p key value (plan_now (lies (host D.meaning D.place D.part) domain.now.origin) p key)) (plan_now (lies (host D.meaning D.place D.part) domain.now.origin) p key) (putting ∷ key ∷ value ∷ []) key value es × (writer.new.token ≡ adding writer.old.token es)) }
     ensures need { IfErr result (λ need. (p : WriterState) → WriterIs (host D.meaning D.place D.part) domain.now.origin writer.old.token p → IsNeeded (host D.meaning D.place D.part) domain.now.origin p (plan_now (lies (host D.meaning D.place D.part) domain.now.origin) p key) state.old need) }
+    ensures free { IfOk result (λ r. (p : WriterState) → WriterIs (host D.meaning D.place D.part) domain.now.origin writer.old.token p → IsRebuildDue (lies (host D.meaning D.place D.part) domain.now.origin) p (plan_now (lies (host D.meaning D.place D.part) domain.now.origin) p key) → HasNoneFree state.old.arena (needed_log (lies (host D.meaning D.place D.part) domain.now.origin) p) → ⊥) }
     ensures ready { Ready (host D.meaning D.place D.part) domain.now.origin writer.new state.new }
 {
     let _updates = writer.tally();

@@ -57,7 +57,11 @@ fn grown_log(state: &HtState) -> u64
     ensures { result ≡ rebuilt_log (log_of state.now.root) state.now.keys }
 {
     let log = state.root % 32;
-    if 2 * (state.keys + 1) > 1 << log { log + 1 } else { log }
+    if 2 * (state.keys + 1) > 1 << log {
+        log + 1
+    } else {
+        log
+    }
 }
 
 // Whether a fresh key may take an empty slot as the map is: at most three quarters of the slots are in use then.

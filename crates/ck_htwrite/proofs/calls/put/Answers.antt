@@ -1,21 +1,23 @@
-use Rattle.std.proofs.Common.{◌≡◌, ℕ, ◌+◌, ◌^◌, ◌<◌, ◌≤◌, List, [], ◌∷◌, ◌++◌, length, refl, sym, ap, ◌∙◌, subst, arith}
+use Rattle.std.proofs.Common.{◌≡◌, ℕ, ◌+◌, ◌≤◌, List, [], ◌∷◌, ◌++◌, length, sym, ap, ◌∙◌, subst, arith}
 use Rattle.ck_run.specs.declared.account.Entry.{Entry}
 use Rattle.ck_run.specs.declared.account.Step.{Step}
 use Rattle.ck_run.specs.Tokens.{table, adding}
 use Rattle.ck_epoch.specs.State.{state}
 use Rattle.ck_history.specs.declared.update.Reply.{Reply}
-use Rattle.ck_history.specs.declared.update.Update.TheVariants.{Set, Put}
+use Rattle.ck_history.specs.declared.update.Update.TheVariants.{Put}
 use Rattle.ck_htplan.specs.declared.cases.Plan.{Plan}
 use Rattle.ck_htlaw.specs.Host.{host, lies}
-use Rattle.ck_htlaw.specs.Calls.{opening_of, setting, putting, set, put}
+use Rattle.ck_htlaw.specs.Calls.{putting, put}
 use Rattle.ck_htlaw.specs.Table.{WriterState}
-use Rattle.ck_htlaw.specs.Actions.{plan_now, set_reply, put_reply}
+use Rattle.ck_htlaw.specs.Actions.{plan_now, put_reply}
 use Rattle.ck_htlaw.specs.Known.{knows}
 use Rattle.ck_htwrite.specs.declared.state.Need.{Need}
+use Rattle.ck_htwrite.specs.Arena.{HasNoneFree}
 use Rattle.ck_htwrite.specs.State.{Ready}
-use Rattle.ck_htwrite.specs.Updates.{SetSteps, PutSteps, IsNeeded, Makes}
+use Rattle.ck_htwrite.specs.Updates.{PutSteps, IsNeeded, IsRebuildDue, Makes, needed_log}
 use Rattle.ck_htwrite.specs.Writes.{WriterIs}
-use Rattle.ck_htwrite.proofs.Between.{if_err, answers, small, same_writer, done_reply, done_over, done_made, done_calls, done_pending, done_ready}
+use Rattle.ck_htwrite.proofs.Plans.{not_due_put}
+use Rattle.ck_htwrite.proofs.Between.{if_err, answers, small, same_writer, done_reply, done_over, done_made, done_calls, done_free, done_pending, done_ready}
 use Rattle.ck_htwrite.proofs.calls.put.Goals as goal
 
 pub put_by-requires-clause-calls : goal.put_by-requires-clause-calls
@@ -133,6 +135,20 @@ returns-clause-pending g c =
     let done = c.in_ok-reply.ensures.made r planned in let expected = put_reply l p plan in
     let Are : List Step → Type 0 = PutSteps l p key value plan in
     subst (λ v. length (state v.token).pending ≤ length (state w.token).pending + 1) (sym c.set_tally.ensures) (done_pending h g.met.D.Within.within o w w1 same writing.first s s1 ready expected reply Are plan (put ∷ key ∷ value ∷ []) key value done)
+
+pub returns-clause-free : goal.returns-clause-free
+returns-clause-free g c q is =
+    let o = c.args.domain.now.origin in
+    let h = host g.D.Client.meaning g.D.Within.place g.D.Within.part in
+    let l = lies h o in let s = c.args.state.now in let w = c.args.writer.now in let t = w.token in let key : ℕ = c.args.key in let value : ℕ = c.args.value in
+    let same = ap (λ v. v.origin) c.requires.table in let writing = c.tally-updates.ensures.writing in
+    let ready = c.requires.ready in let r = ready.lists in let p = r.is_writer in
+    let planned = c.plan_for-plan.ensures.plan p r.reflects in let plan = c.plan_for-plan.result in
+    let w1 = c.put_by.new.writer in let s1 = c.put_by.new.state in let reply = c.in_ok-reply.reply in
+    let done = c.in_ok-reply.ensures.made r planned in let expected = put_reply l p plan in
+    let Are : List Step → Type 0 = PutSteps l p key value plan in
+    subst (λ (x : WriterState). IsRebuildDue l x (plan_now l x key) → HasNoneFree s.arena (needed_log l x) → ⊥) (same_writer h g.met.D.Within.within o t s r q is)
+    (λ due none. done_free h g.met.D.Within.within o w w1 same writing.first s s1 ready expected reply Are plan (put ∷ key ∷ value ∷ []) key value done (λ ss are d. not_due_put l p key value plan ss d are) (subst (IsRebuildDue l p) planned due) none)
 
 pub returns-clause-reply : goal.returns-clause-reply
 returns-clause-reply g c =

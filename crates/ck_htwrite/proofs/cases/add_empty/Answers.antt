@@ -1,26 +1,13 @@
-use Rattle.std.proofs.Common.{◌≡◌, ℕ, ◌+◌, ◌*◌, ◌^◌, ◌<◌, ◌≤◌, Bool, true, false, nat_le, List, [], ◌∷◌, inl, inr, refl, sym, ap, ◌∙◌, subst, arith}
-use Rattle.std.specs.Prelude.{MatchResult}
+use Rattle.std.proofs.Common.{◌≡◌, ℕ, ◌<◌, Bool, false, nat_le, inl, refl, ap, arith}
 use Rattle.std.proofs.lemmas.Bool.Decides.{nat_tests}
-use Rattle.ck_run.specs.declared.account.Step.{Step}
-use Rattle.ck_history.specs.declared.update.Reply.TheVariants.{Fresh, Full, Was, Has, Missing}
 use Rattle.ck_epoch.specs.State.{base_of}
-use Rattle.ck_htplan.specs.declared.cases.Plan.{Plan}
-use Rattle.ck_htplan.specs.declared.cases.Plan.TheVariants.{Empty, Reuse, Stand, Move}
-use Rattle.ck_htplan.specs.Region.{view_of}
-use Rattle.ck_htlaw.specs.Calls.{opening_of, set, put}
 use Rattle.ck_htlaw.specs.Host.{host, first, inner, lies}
-use Rattle.ck_htlaw.specs.Stages.{Insertion, empty, reuse as reusing}
-use Rattle.ck_htlaw.specs.Layout.{log_of}
-use Rattle.ck_htlaw.specs.Table.{publishes}
-use Rattle.ck_htlaw.specs.Actions.{adds, added, by_call, set_reply, put_reply, to_set, to_put, when_copied}
+use Rattle.ck_htlaw.specs.Stages.{Insertion, empty}
 use Rattle.ck_htwrite.specs.declared.state.HtState.{HtState}
-use Rattle.ck_htwrite.specs.Rebuild.{GoesOnAfter}
-use Rattle.ck_htwrite.specs.Updates.{AddsFresh, Asks, IsDone, IsIn, HasStates, IsMade, IsNeeded, InsertSteps, ReuseSteps, SetSteps, PutSteps}
 use Rattle.ck_htwrite.specs.Writes.{counters_in}
-use Rattle.ck_htwrite.proofs.Slots.{item_in}
 use Rattle.ck_htwrite.proofs.Growing.{adding_idle, roomy_now}
-use Rattle.ck_htwrite.proofs.Plans.{room, no_room, keys_few, tombstones_few, about_nothing, about_insert, about_reuse, adds_set, adds_put, set_is, put_is}
-use Rattle.ck_htwrite.proofs.Made.{done_grown, may_insert, made_insert, may_stand, made_stand, may_move, made_move, may_ask, made_ask, made_full, value_is}
+use Rattle.ck_htwrite.proofs.Plans.{room, no_room, keys_few, tombstones_few, about_nothing, about_insert}
+use Rattle.ck_htwrite.proofs.Made.{done_grown, may_insert, made_insert, may_ask, made_full}
 use Rattle.ck_htwrite.proofs.cases.add_empty.Goals as goal
 
 pub ask_root-requires-clause-due : goal.ask_root-requires-clause-due
@@ -108,5 +95,8 @@ returns-clause-made g c r planned =
     let adding_is = adding_idle fl fi client p s r.reflects opens key value at c.requires.adds planned r.idles in
     let fits = room fl fi client p s r.reflects (let z = c.if-state-ge-MOST.false in omega arith) in
     let s1 = c.insert.new.state in let is = c.insert.ensures.state in
-    inl (made_insert h o w c.insert.new.writer s s1 r opens key value at c.requires.slot (about_insert fl fi client p s r.reflects opens pair adding_is fits c.is_roomy.result c.is_roomy.ensures c.if-not-is_roomy.false) c.requires.was fits (roomy_now fl fi client p s r.reflects c.is_roomy.result c.is_roomy.ensures c.if-not-is_roomy.false) c.insert.ensures.steps is,
-    ap (λ (x : HtState). x.root) is, ap (λ (x : HtState). x.arena) is)
+    inl (
+      made_insert h o w c.insert.new.writer s s1 r opens key value at c.requires.slot (about_insert fl fi client p s r.reflects opens pair adding_is fits c.is_roomy.result c.is_roomy.ensures c.if-not-is_roomy.false) c.requires.was fits (roomy_now fl fi client p s r.reflects c.is_roomy.result c.is_roomy.ensures c.if-not-is_roomy.false) c.insert.ensures.steps is,
+      ap (λ (x : HtState). x.root) is,
+      ap (λ (x : HtState). x.arena) is,
+    )

@@ -1,18 +1,15 @@
-use Rattle.std.proofs.Common.{◌≡◌, ℕ, ◌+◌, ◌*◌, ◌^◌, ◌<◌, true, false, List, [], ◌∷◌, inl, refl, sym, ap, ◌∙◌, subst, arith}
-use Rattle.std.specs.Prelude.{MatchResult}
+use Rattle.std.proofs.Common.{◌≡◌, ℕ, ◌^◌, true, false, inl, refl, sym, ap, ◌∙◌, subst}
 use Rattle.ck_epoch.specs.State.{base_of}
-use Rattle.ck_htplan.specs.declared.cases.Plan.{Plan}
 use Rattle.ck_htplan.specs.declared.cases.Plan.TheVariants.{Empty}
 use Rattle.ck_htplan.specs.Region.{view_of}
 use Rattle.ck_htlaw.specs.Host.{host, first, inner, lies}
 use Rattle.ck_htlaw.specs.Layout.{log_of}
-use Rattle.ck_htlaw.specs.Actions.{added}
 use Rattle.ck_htwrite.specs.declared.state.Need.{Need}
 use Rattle.ck_htwrite.specs.Rebuild.{rebuild_entries}
-use Rattle.ck_htwrite.specs.Updates.{HasStates, IsIn, IsNeeded, needed_log}
+use Rattle.ck_htwrite.specs.Updates.{HasStates, IsIn, IsNeeded}
 use Rattle.ck_htwrite.specs.Writes.{counters_in}
 use Rattle.ck_htwrite.proofs.Between.{match_err, once}
-use Rattle.ck_htwrite.proofs.Growing.{IsGrownLog, begins_rebuilding, grown_log, keys_below, log_now, not_roomy}
+use Rattle.ck_htwrite.proofs.Growing.{IsGrownLog, begins_rebuilding, grown_log, keys_below}
 use Rattle.ck_htwrite.proofs.Grown.{grown_whole, may_go_in, plan_then, needed_whole}
 use Rattle.ck_htwrite.proofs.cases.add_grown.Goals as goal
 

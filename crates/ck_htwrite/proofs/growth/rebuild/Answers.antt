@@ -1,4 +1,4 @@
-use Rattle.std.proofs.Common.{◌≡◌, ℕ, ◌+◌, ◌^◌, ◌<◌, ◌≤◌, List, [], ◌∷◌, length, refl, sym, ap, ◌∙◌, subst, arith}
+use Rattle.std.proofs.Common.{◌≡◌, ℕ, ◌+◌, ◌^◌, ◌<◌, ◌≤◌, List, length, refl, sym, ap, ◌∙◌, subst, arith}
 use Rattle.ck_run.specs.Tokens.{adding, table}
 use Rattle.ck_epoch.specs.State.{Retirement, state}
 use Rattle.ck_words.specs.Buddies.{Arena}
@@ -9,8 +9,8 @@ use Rattle.ck_htlaw.specs.Known.{IsRoot, knows}
 use Rattle.ck_htlaw.specs.Layout.{log_of, region_item, IsFreeRegion}
 use Rattle.ck_htwrite.specs.declared.state.HtState.{HtState}
 use Rattle.ck_htwrite.specs.Arena.{IsArenaOfTable, IsKept, unreturned}
-use Rattle.ck_htwrite.specs.Rebuild.{CanHoldAll, CopiesAt, adopted_lists, rebuild_entries}
-use Rattle.ck_htwrite.specs.Writes.{counters_in, opened, WriterAt}
+use Rattle.ck_htwrite.specs.Rebuild.{CopiesAt, adopted_lists, rebuild_entries}
+use Rattle.ck_htwrite.specs.Writes.{counters_in}
 use Rattle.ck_htwrite.proofs.Chains.{same_room, then_counted, one_retired}
 use Rattle.ck_htwrite.proofs.Rebuilding.{free_region, can_hold, with_arena, kept_after}
 use Rattle.ck_htwrite.proofs.growth.rebuild.Goals as goal
