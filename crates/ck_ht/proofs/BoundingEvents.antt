@@ -13,17 +13,16 @@ use Rattle.ck_signal.specs.declared.signals.Signals.{Signals}
 use Rattle.ck_signal.specs.Words.{answered}
 use Rattle.ck_signal.specs.Signals.{inside, readers}
 use Rattle.ck_signal.specs.Told.{TrueSignals, answered_word_of, answers_during}
-use Rattle.ck_history.specs.declared.event.WriterEvent.{WriterEvent}
-use Rattle.ck_history.specs.declared.event.WriterEvent.TheVariants.{Updated, Told}
+use Rattle.ck_history.specs.declared.event.WriterEvent.TheVariants.{Told}
 use Rattle.ck_history.specs.declared.log.LogEntry.{LogEntry}
 use Rattle.ck_history.specs.Places.{AreUpTo, AreBoundedFrom}
 use Rattle.ck_htlaw.specs.declared.client.HtClient.{HtClient}
 use Rattle.ck_htlaw.specs.Client.{Answers, table, answers_next, answers_after, layout_of, logged, due_next}
 use Rattle.ck_htlaw.specs.Host.{lies}
-use Rattle.ck_htlaw.specs.Law.{IsTableRun, local_in, log_in, updates_in}
+use Rattle.ck_htlaw.specs.Law.{IsTableRun, local_in, log_in}
 use Rattle.ck_htlaw.specs.Reached.{with_signals}
 use Rattle.ck_htlaw.specs.Stages.{Stage, idle}
-use Rattle.ck_htlaw.specs.Table.{Layout, WriterState, LocalState, writer, reader}
+use Rattle.ck_htlaw.specs.Table.{Layout, LocalState, writer, reader}
 use Rattle.ck_htlaw.proofs.Tokens.{local_after_all}
 use Rattle.ck_htread.specs.Answered.{looks_in, HavePlaces}
 use Rattle.ck_ht.specs.Closed.{places_from}

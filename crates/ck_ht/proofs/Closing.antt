@@ -1,6 +1,6 @@
 -- What is known of a table when it is closed.
-use Rattle.std.proofs.Common.{◌≡◌, ℕ, zero, suc, ◌+◌, ◌*◌, ◌<◌, ◌≤◌, cond, ltb, get_or, List, [], ◌++◌, length, append-nil, drop, refl, sym, ap, ◌∙◌, subst, arith}
-use Rattle.std.specs.Prelude.{Option, All}
+use Rattle.std.proofs.Common.{◌≡◌, ℕ, zero, suc, ◌+◌, ◌*◌, ◌≤◌, cond, ltb, get_or, List, [], ◌++◌, length, append-nil, drop, refl, sym, ap, ◌∙◌, subst, arith}
+use Rattle.std.specs.Prelude.{All}
 use Rattle.std.specs.Ordering.{nat_cmp}
 use Rattle.std.proofs.lemmas.List.{get_or-drop}
 use Rattle.ck_run.specs.declared.account.Entry.{Entry}
@@ -21,7 +21,7 @@ use Rattle.ck_htlaw.specs.declared.client.HtClient.{HtClient}
 use Rattle.ck_htlaw.specs.Client.{Answers, table, answers_after, local_after, orders_of, first_reader}
 use Rattle.ck_htlaw.specs.Host.{lies}
 use Rattle.ck_htlaw.specs.Known.{knows}
-use Rattle.ck_htlaw.specs.Law.{TableLaw, WordsStand, IsTableRun, local_in, answers_in, log_in, updates_in, retries_of, copies_by, copies_of}
+use Rattle.ck_htlaw.specs.Law.{TableLaw, WordsStand, IsTableRun, local_in, answers_in, updates_in, retries_of, copies_by, copies_of}
 use Rattle.ck_htlaw.specs.Layout.{layout, counters_of}
 use Rattle.ck_htlaw.specs.Linearized.{AreReplies, map_after}
 use Rattle.ck_htlaw.specs.Reached.{with_signals}

@@ -1,24 +1,19 @@
 -- What each kind of step adds to the events of a token.
-use Rattle.std.proofs.Common.{◌≡◌, ℕ, suc, ◌+◌, ◌<◌, ◌≤◌, ◌⊎◌, ⊎_elim, inl, inr, Bool, true, false, cond, ◌==◌, ◌&&◌, nat_le, nat_lt, List, [], ◌∷◌, ◌++◌, map, length, append-nil, append_assoc, eqb-true, refl, sym, ap, ◌∙◌, subst, arith}
-use Rattle.std.specs.Prelude.{Option, Some, None, Result, Ok, Err}
-use Rattle.std.proofs.lemmas.Bool.Decides.{nat_tests}
+use Rattle.std.proofs.Common.{◌≡◌, ℕ, ◌⊎◌, ⊎_elim, inl, inr, Bool, true, false, cond, ◌==◌, ◌&&◌, List, [], ◌∷◌, ◌++◌, map, append-nil, append_assoc, eqb-true, refl, sym, ap, ◌∙◌, arith}
+use Rattle.std.specs.Prelude.{Option}
 use Rattle.ck_run.specs.declared.account.Step.{Step}
 use Rattle.ck_run.specs.declared.account.Step.TheVariants.{Load}
 use Rattle.ck_run.specs.declared.account.Entry.{Entry}
-use Rattle.ck_run.specs.Run.{call, entry, further}
+use Rattle.ck_run.specs.Run.{call, further}
 use Rattle.ck_run.specs.Machine.{state_after}
 use Rattle.ck_run.specs.Tokens.{adding, did, number}
 use Rattle.ck_run.proofs.Law.{state-append}
 use Rattle.ck_run.proofs.Lists.{first_is, rest_is}
 use Rattle.ck_epoch.specs.State.{Origin, Token}
 use Rattle.ck_signal.specs.declared.signals.Signals.{Signals}
-use Rattle.ck_signal.specs.Words.{reached, answered}
-use Rattle.ck_signal.specs.Signals.{readers}
-use Rattle.ck_signal.specs.Told.{applied_word_of, answered_word_of}
-use Rattle.ck_history.specs.declared.event.ReaderEvent.{ReaderEvent}
+use Rattle.ck_signal.specs.Words.{reached}
+use Rattle.ck_signal.specs.Told.{applied_word_of}
 use Rattle.ck_history.specs.declared.event.ReaderEvent.TheVariants.{Answered, Reached}
-use Rattle.ck_history.specs.declared.event.WriterEvent.{WriterEvent}
-use Rattle.ck_history.specs.declared.event.WriterEvent.TheVariants.{Updated, Told}
 use Rattle.ck_htlaw.specs.declared.client.HtClient.{HtClient}
 use Rattle.ck_htlaw.specs.Calls.{look}
 use Rattle.ck_htlaw.specs.Client.{Answers, table, answers_next, answers_after, looks_next}
@@ -27,12 +22,11 @@ use Rattle.ck_htlaw.specs.Known.{knows}
 use Rattle.ck_htlaw.specs.Law.{look_state_of}
 use Rattle.ck_htlaw.specs.Look.{LookState, no_look}
 use Rattle.ck_htlaw.specs.Reached.{with_signals}
-use Rattle.ck_htlaw.specs.Stages.{Stage, idle}
 use Rattle.ck_htlaw.specs.Table.{Layout}
 use Rattle.ck_history.specs.declared.log.Look.{Look}
 use Rattle.ck_htread.specs.Reading.{Looks, look_entries, answered_by}
 use Rattle.ck_htread.specs.Scan.{scan_loads}
-use Rattle.ck_ht.specs.Events.{Reading, Writing, reached_result, answer_events, reached_event, answered_event, reader_event, writer_event, reader_events, writer_events, pass_events, hand_events}
+use Rattle.ck_ht.specs.Events.{Reading, Writing, reached_result, answer_events, reached_event, reader_event, writer_event, reader_events, writer_events, pass_events, hand_events}
 
 both_true : (a b : Bool) → (a && b) ≡ true → (a ≡ true) × (b ≡ true)
 both_true true true e = (refl, refl)

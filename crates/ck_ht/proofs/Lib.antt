@@ -5,6 +5,7 @@ pub mod BoundingEvents
 pub mod LogEvents
 pub mod Settling
 pub mod Closing
+pub mod Sizes
 pub mod AtOpening
 pub mod Repeating
 pub mod SignalSteps

@@ -1,5 +1,5 @@
 -- The answers among a reader's events are right at their places, which bear out what `reached` told.
-use Rattle.std.proofs.Common.{◌≡◌, ℕ, zero, suc, ◌+◌, ◌<◌, ◌≤◌, ◌⊎◌, ⊎_elim, inl, inr, Bool, true, false, cond, nat_le, max, List, [], ◌∷◌, ◌++◌, length, length-append, append-nil, append_assoc, refl, sym, ap, ◌∙◌, subst, arith}
+use Rattle.std.proofs.Common.{◌≡◌, ℕ, zero, suc, ◌+◌, ◌<◌, ◌≤◌, ⊎_elim, Bool, true, false, cond, nat_le, max, List, [], ◌∷◌, ◌++◌, length, length-append, append-nil, append_assoc, refl, sym, ap, ◌∙◌, subst, arith}
 use Rattle.std.specs.Prelude.{Option, Result, Ok, Err, slice_index}
 use Rattle.std.specs.Ordering.{nat_cmp}
 use Rattle.std.proofs.lemmas.Bool.Decides.{nat_tests}
@@ -16,9 +16,7 @@ use Rattle.ck_epoch.specs.State.{Origin, base_of}
 use Rattle.ck_signal.specs.declared.signals.Signals.{Signals}
 use Rattle.ck_signal.specs.Signals.{inside}
 use Rattle.ck_signal.specs.Told.{TrueSignals, applied_word_of, log_during}
-use Rattle.ck_history.specs.declared.event.ReaderEvent.{ReaderEvent}
 use Rattle.ck_history.specs.declared.event.ReaderEvent.TheVariants.{Answered, Reached}
-use Rattle.ck_history.specs.declared.log.LogEntry.{LogEntry}
 use Rattle.ck_history.specs.Events.{known_by}
 use Rattle.ck_history.specs.Map.{answer_after}
 use Rattle.ck_history.specs.Places.{ArePlacedAt}
@@ -26,11 +24,11 @@ use Rattle.ck_htlaw.specs.declared.client.HtClient.{HtClient}
 use Rattle.ck_htlaw.specs.Actions.{most}
 use Rattle.ck_htlaw.specs.Client.{Answers, table, answers_next, answers_after, looks_next, layout_of}
 use Rattle.ck_htlaw.specs.Host.{lies}
-use Rattle.ck_htlaw.specs.Law.{TableLaw, IsTableRun, local_in, log_in, updates_in, linearized, look_state_of}
+use Rattle.ck_htlaw.specs.Law.{TableLaw, IsTableRun, local_in, log_in, updates_in, look_state_of}
 use Rattle.ck_htlaw.specs.Linearized.{updates}
 use Rattle.ck_htlaw.specs.Look.{no_look}
 use Rattle.ck_htlaw.specs.Reached.{with_signals}
-use Rattle.ck_htlaw.specs.Table.{Layout, LocalState}
+use Rattle.ck_htlaw.specs.Table.{Layout}
 use Rattle.ck_htlaw.proofs.Tokens.{local_after_all}
 use Rattle.ck_htread.specs.Answered.{looks_in, HavePlaces}
 use Rattle.ck_htread.proofs.Answering.{answers_or_not}

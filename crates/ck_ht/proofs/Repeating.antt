@@ -1,5 +1,5 @@
 -- Looks that are made again until one answers.
-use Rattle.std.proofs.Common.{◌≡◌, ℕ, ◌+◌, List, [], ◌∷◌, ◌++◌, length, length-append, append-nil, refl, sym, ap, ◌∙◌, subst, arith}
+use Rattle.std.proofs.Common.{◌≡◌, ℕ, ◌+◌, List, [], ◌∷◌, ◌++◌, length, length-append, append-nil, refl, ◌∙◌, subst, arith}
 use Rattle.ck_run.specs.Tokens.{table}
 use Rattle.ck_history.specs.declared.log.Look.{Look}
 use Rattle.ck_history.specs.declared.log.Look.TheVariants.{Again}

@@ -1,5 +1,5 @@
 -- With the writer between two updates, its log has all updates that have taken place.
-use Rattle.std.proofs.Common.{◌≡◌, List, [], ◌∷◌, ◌++◌, append-nil, refl, sym, ap, ◌∙◌}
+use Rattle.std.proofs.Common.{◌≡◌, [], ◌++◌, append-nil, refl, sym, ap, ◌∙◌}
 use Rattle.ck_run.specs.Run.{account}
 use Rattle.ck_epoch.specs.State.{Origin}
 use Rattle.ck_epoch.specs.Epochs.{Reclamation}

@@ -1,15 +1,14 @@
 -- The signal calls of a table: they leave its tokens where they stand, and are events or none.
-use Rattle.std.proofs.Common.{◌≡◌, ℕ, suc, ◌+◌, ◌<◌, ◌≤◌, ◌⊎◌, ⊎_elim, inl, inr, Bool, true, false, cond, nat_le, nat_lt, ◌==◌, ◌&&◌, eq-eqb, List, [], ◌∷◌, ◌++◌, length, append-nil, refl, sym, ap, ◌∙◌, subst, arith}
+use Rattle.std.proofs.Common.{◌≡◌, ℕ, ◌+◌, ◌<◌, ◌≤◌, ◌⊎◌, ⊎_elim, inl, inr, Bool, true, false, cond, nat_le, nat_lt, ◌==◌, ◌&&◌, eq-eqb, List, [], ◌∷◌, ◌++◌, length, append-nil, refl, sym, ap, ◌∙◌, arith}
 use Rattle.std.specs.Prelude.{Result, Ok, Err, MatchResult, All}
 use Rattle.std.proofs.lemmas.Bool.Decides.{nat_tests}
 use Rattle.std.proofs.lemmas.List.Elements.{All-head, All-tail}
 use Rattle.ck_run.specs.declared.account.Step.{Step}
-use Rattle.ck_run.specs.declared.account.Step.TheVariants.{Load}
 use Rattle.ck_run.specs.declared.account.Entry.{Entry}
 use Rattle.ck_run.specs.Range.{word_of}
 use Rattle.ck_run.specs.Tokens.{adding, did, number, origin}
-use Rattle.ck_epoch.specs.State.{Origin, Token, base_of}
-use Rattle.ck_epoch.specs.Calls.{rec_of, StepsBelow}
+use Rattle.ck_epoch.specs.State.{Origin, base_of}
+use Rattle.ck_epoch.specs.Calls.{StepsBelow}
 use Rattle.ck_epoch.specs.Ends.{Pass, Writer}
 use Rattle.ck_signal.specs.declared.signals.Signals.{Signals}
 use Rattle.ck_signal.specs.Words.{reaches, notes, marks, asks}
@@ -22,18 +21,18 @@ use Rattle.ck_htlaw.specs.Client.{Answers, table, answers_after, answers_next, l
 use Rattle.ck_htlaw.specs.Host.{lies}
 use Rattle.ck_htlaw.specs.Known.{knows}
 use Rattle.ck_htlaw.specs.Law.{look_state_of}
-use Rattle.ck_htlaw.specs.Look.{LookState, no_look}
+use Rattle.ck_htlaw.specs.Look.{no_look}
 use Rattle.ck_htlaw.specs.Reached.{with_signals}
 use Rattle.ck_htlaw.specs.Stages.{Stage, idle}
-use Rattle.ck_htlaw.specs.Table.{Layout, WriterState, LocalState, writer, is_table_word}
+use Rattle.ck_htlaw.specs.Table.{Layout, is_table_word}
 use Rattle.ck_htlaw.proofs.Tokens.{local_after_all, knows_next}
 use Rattle.ck_htread.specs.Reading.{LookTotals, totals_of}
 use Rattle.ck_htread.proofs.Telling.{record_of}
 use Rattle.ck_ht.specs.Ends.{IsBetweenUpdates, IsPassReady}
 use Rattle.ck_ht.specs.Events.{Reading, Writing, reached_result, answer_events, reached_event, answered_event, update_events, told_event, logs_next, reader_event, writer_event, pass_events, hand_events}
 use Rattle.ck_ht.proofs.Closing.{is_first}
-use Rattle.ck_ht.proofs.Elsewhere.{AreElsewhere, beyond, not_less, looks_still, ready_still, below_all, writer_still}
-use Rattle.ck_ht.proofs.EventSteps.{AreSilent, IsSilent, looks_are_events, pass_events_grow, hand_events_grow}
+use Rattle.ck_ht.proofs.Elsewhere.{beyond, not_less, looks_still, ready_still, below_all, writer_still}
+use Rattle.ck_ht.proofs.EventSteps.{AreSilent, looks_are_events, pass_events_grow, hand_events_grow}
 
 plus_none : (a : ℕ) → a ≡ a + 0
 plus_none a = omega arith

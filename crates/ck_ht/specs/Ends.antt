@@ -1,5 +1,5 @@
 -- The tokens of a table that has a domain of its own, with signals.
-use Rattle.std.specs.Prelude.{◌≡◌, ℕ, ◌≤◌, length}
+use Rattle.std.specs.Prelude.{◌≡◌, ◌≤◌, length}
 use Rattle.ck_epoch.specs.State.{Origin}
 use Rattle.ck_epoch.specs.Ends.{Writer, Pass}
 use Rattle.ck_signal.specs.declared.signals.Signals.{Signals}

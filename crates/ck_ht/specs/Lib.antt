@@ -1,5 +1,6 @@
 pub mod Events
 pub mod Getting
 pub mod Ends
+pub mod Room
 pub mod Settled
 pub mod Closed

@@ -4,6 +4,8 @@
 mod laws;
 pub mod part;
 mod table;
+#[cfg(test)]
+mod tests;
 
 pub use ck_htlaw::HtClient;
 pub use table::{Ht, HtPass, HtWriter, home};

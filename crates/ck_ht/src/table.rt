@@ -1,5 +1,5 @@
 //! A table with a domain of its own.
-ghost use Rattle.std.specs.Prelude.{◌≡◌, ℕ, ◌+◌, ◌-◌, ◌<◌, ◌≤◌, ◌^◌, Option, List, [], ◌∷◌, ◌++◌, length, vec_len, IfOk, MatchResult, All};
+ghost use Rattle.std.specs.Prelude.{true, ◌≡◌, ℕ, ◌+◌, ◌-◌, ◌<◌, ◌≤◌, ◌^◌, Option, List, [], ◌∷◌, ◌++◌, length, vec_len, IfOk, MatchResult, All};
 ghost use Rattle.ck_run.specs.declared.account.Step.TheVariants.{Store};
 ghost use Rattle.ck_run.specs.Run.{call};
 ghost use Rattle.ck_run.specs.Tokens.{table, adding};
@@ -17,6 +17,7 @@ ghost use Rattle.ck_history.specs.declared.log.Look.TheVariants.{Again};
 ghost use Rattle.ck_htlaw.specs.Client.{table as table_client, is_region, home_of};
 ghost use Rattle.ck_htlaw.specs.Known.{knows};
 ghost use Rattle.ck_htlaw.specs.Law.{retries_of};
+ghost use Rattle.ck_htlaw.specs.Layout.{counters_of, table_words};
 ghost use Rattle.ck_htlaw.specs.Reached.{with_signals};
 ghost use Rattle.ck_htread.specs.Answered.{HasAnswered};
 ghost use Rattle.ck_htread.specs.Reading.{Looks, look_result, answered_by, retries_by, totals_of};
@@ -24,6 +25,7 @@ ghost use Rattle.ck_ht.specs.Closed.{IsClosedTable};
 ghost use Rattle.ck_ht.specs.Ends.{IsPassReady};
 ghost use Rattle.ck_ht.specs.Events.{answer_events, pass_events, hand_events};
 ghost use Rattle.ck_ht.specs.Getting.{Gets};
+ghost use Rattle.ck_ht.specs.Room.{IsRoomFor};
 
 use crate::laws::settled_law;
 use ck_epoch::{Closed, Domain, Item, Pass, Writer};
@@ -92,8 +94,27 @@ pub fn home(item: Item) -> Back
 /// How many pieces can be out.
 const ROOM: u64 = 262_144;
 
-/// The arena has 2^23 words.
+/// The arena has 2^23 words, which is room for a map of the most pairs.
 const ARENA_LOG: u64 = 23;
+
+/// The logarithm of the slots at opening, and of the most slots.
+const OPENING_LOG: u64 = 3;
+
+const LARGEST_LOG: u64 = 19;
+
+// The logarithm of the words of four regions with the most slots that a map of at most so many keys comes to.
+fn room_log(keys: u64) -> u64
+    requires { keys ≤ 262144 }
+    ensures room { IsRoomFor keys result }
+    ensures few { result ≤ 23 }
+{
+    for c in OPENING_LOG..LARGEST_LOG {
+        if 2 * keys <= 1 << c {
+            return c + 4;
+        }
+    }
+    LARGEST_LOG + 4
+}
 
 impl Ht {
     /// A table whose map is empty, its writer, and the passes of its readers, in order. The only error is want of memory.
@@ -104,20 +125,66 @@ impl Ht {
         handler: F,
     ) -> Result<(Ht, HtWriter<F>, Vec<HtPass>), AllocError>
         requires readers { (1 ≤ readers) × (readers ≤ 64) }
-        requires handler { Answers (λ item. is_region (record { seed = seed; arena_log = 23 }) item) (λ item. home_of item) (F.pre handler) (F.post handler) }
+        requires handler { Answers (λ item. true) (λ item. home_of item) (F.pre handler) (F.post handler) }
         ensures client { IfOk result (λ r. r.0.origin.config.client.client ≡ record { seed = seed; arena_log = 23 }) }
         ensures writer { IfOk result (λ r. (r.1.writer.token ≡ fresh r.0 0) × (hand_events r.0.origin r.1.writer.token ≡ [])) }
         ensures passes { IfOk result (λ r. (vec_len r.2 ≡ readers) × AreFreshPasses r.0 1 r.2.items) }
-        ensures ready { IfOk result (λ r. All (λ p. IsPassReady r.0.origin p × (pass_events r.0.origin p.token ≡ [])) r.2.items) }
+        ensures made { IfOk result (λ r. All (λ p. table p.token ≡ r.0) r.2.items) }
+        ensures ready { IfOk result (λ r. All (λ p. IsPassReady r.0.origin p) r.2.items) }
+        ensures events { IfOk result (λ r. All (λ p. pass_events r.0.origin p.token ≡ []) r.2.items) }
     {
-        let client = Signals::new(
-            HtClient {
-                seed,
-                arena_log: ARENA_LOG,
-            },
-            readers,
-        );
-        let (domain, writer, passes) = Domain::new(alloc, client, readers, ROOM, handler)?;
+        let client = HtClient {
+            seed,
+            arena_log: ARENA_LOG,
+        };
+        Ht::open(alloc, client, readers, handler)
+    }
+
+    /// The same with the least arena in which a map of at most `keys` pairs has room for four regions of the most slots that it comes to: a
+    /// small table takes little memory, which is written twice when it is made. It may come to more pairs, and then a rebuild may find no room.
+    pub fn with_room<F: Fn(Item) -> Back + Drop>(
+        alloc: Global,
+        seed: u64,
+        keys: u64,
+        readers: u64,
+        handler: F,
+    ) -> Result<(Ht, HtWriter<F>, Vec<HtPass>), AllocError>
+        requires keys { keys ≤ 262144 }
+        requires readers { (1 ≤ readers) × (readers ≤ 64) }
+        requires handler { Answers (λ item. true) (λ item. home_of item) (F.pre handler) (F.post handler) }
+        ensures client { (log : ℕ) × IsRoomFor keys log × IfOk result (λ r. r.0.origin.config.client.client ≡ record { seed = seed; arena_log = log }) }
+        ensures writer { IfOk result (λ r. (r.1.writer.token ≡ fresh r.0 0) × (hand_events r.0.origin r.1.writer.token ≡ [])) }
+        ensures passes { IfOk result (λ r. (vec_len r.2 ≡ readers) × AreFreshPasses r.0 1 r.2.items) }
+        ensures made { IfOk result (λ r. All (λ p. table p.token ≡ r.0) r.2.items) }
+        ensures ready { IfOk result (λ r. All (λ p. IsPassReady r.0.origin p) r.2.items) }
+        ensures events { IfOk result (λ r. All (λ p. pass_events r.0.origin p.token ≡ []) r.2.items) }
+    {
+        let client = HtClient {
+            seed,
+            arena_log: room_log(keys),
+        };
+        Ht::open(alloc, client, readers, handler)
+    }
+
+    // A table of this client.
+    fn open<F: Fn(Item) -> Back + Drop>(
+        alloc: Global,
+        client: HtClient,
+        readers: u64,
+        handler: F,
+    ) -> Result<(Ht, HtWriter<F>, Vec<HtPass>), AllocError>
+        requires small { table_words (counters_of client) ≤ 2 ^ 32 }
+        requires readers { (1 ≤ readers) × (readers ≤ 64) }
+        requires handler { Answers (λ item. is_region client item) (λ item. home_of item) (F.pre handler) (F.post handler) }
+        ensures client { IfOk result (λ r. r.0.origin.config.client.client ≡ client) }
+        ensures writer { IfOk result (λ r. (r.1.writer.token ≡ fresh r.0 0) × (hand_events r.0.origin r.1.writer.token ≡ [])) }
+        ensures passes { IfOk result (λ r. (vec_len r.2 ≡ readers) × AreFreshPasses r.0 1 r.2.items) }
+        ensures made { IfOk result (λ r. All (λ p. table p.token ≡ r.0) r.2.items) }
+        ensures ready { IfOk result (λ r. All (λ p. IsPassReady r.0.origin p) r.2.items) }
+        ensures events { IfOk result (λ r. All (λ p. pass_events r.0.origin p.token ≡ []) r.2.items) }
+    {
+        let signals = Signals::new(client, readers);
+        let (domain, writer, passes) = Domain::new(alloc, signals, readers, ROOM, handler)?;
         Ok((Ht { domain }, HtWriter { writer }, passes))
     }
 

@@ -1,4 +1,4 @@
-use Rattle.std.proofs.Common.{◌≡◌, ◌<◌, ◌++◌, [], ◌∷◌, length, refl, ap, sym, subst, ◌∙◌}
+use Rattle.std.proofs.Common.{◌≡◌, ◌<◌, ◌++◌, [], ◌∷◌, ap, sym, subst, ◌∙◌}
 use Rattle.ck_run.specs.Tokens.{adding, origin, table as table_of}
 use Rattle.ck_epoch.specs.State.{Origin}
 use Rattle.ck_epoch.specs.Ends.{Writer}

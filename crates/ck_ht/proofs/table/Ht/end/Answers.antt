@@ -1,4 +1,4 @@
-use Rattle.std.proofs.Common.{◌≡◌, ap, subst, arith}
+use Rattle.std.proofs.Common.{ap, subst, arith}
 use Rattle.ck_run.specs.Tokens.{Table}
 use Rattle.ck_epoch.specs.declared.about.About.{About}
 use Rattle.ck_signal.specs.declared.signals.Signals.{Signals}
