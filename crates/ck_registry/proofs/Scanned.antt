@@ -1,0 +1,105 @@
+-- What a scan leaves, by what it found.
+use Rattle.std.proofs.Common.{◌≡◌, ℕ, ◌+◌, ◌-◌, ◌%◌, ◌<◌, ◌≤◌, [], ◌++◌, length, refl, ap, arith}
+use Rattle.ck_run.specs.Tokens.{number, origin}
+use Rattle.ck_epoch.specs.State.{queue}
+use Rattle.ck_epoch.specs.Lists.{items_on, in_a_row}
+use Rattle.ck_epoch.proofs.Emptying.{IsEmptied}
+use Rattle.ck_registry.specs.declared.answers.Finding.{Finding}
+use Rattle.ck_registry.specs.declared.answers.Finding.TheVariants.{AllInactive, AllCurrent, OneBehind}
+use Rattle.ck_registry.specs.declared.answers.Scan.TheVariants.{Clear, Blocked, Ready}
+use Rattle.ck_registry.specs.State.{Token, TokenState, records_of, state}
+use Rattle.ck_registry.specs.Deferred.{Deferred, items_of}
+use Rattle.ck_registry.specs.Ends.{Member, IsHolder, AreDeferred}
+use Rattle.ck_registry.specs.Calls.{IsScan}
+use Rattle.ck_registry.specs.Scan.{after_finding, HasScanned}
+use Rattle.ck_registry.proofs.Stepping.{Went, holder_after}
+use Rattle.ck_registry.proofs.Dispatching.{one_waits, one_count, one_pending, one_dispatched, one_deferred, all_waits, all_count, all_dispatched, all_deferred}
+
+module _ (t u : Token) (e : ℕ) where
+  scan_went : (f : Finding) → (h : HasScanned t u e f) → Went t u (record (after_finding e (state t) f) { steps = h.made })
+  scan_went AllInactive h = record { at = h.at; same = ap origin h.finds.steps; number = ap number h.finds.steps }
+  scan_went (AllCurrent rec) h = record { at = h.at; same = ap origin h.finds.steps; number = ap number h.finds.steps }
+  scan_went (OneBehind rec epoch) h = record { at = h.at; same = ap origin h.finds.steps; number = ap number h.finds.steps }
+
+  -- the member holds its record, with the sections that it had
+  pub scan_holder : (f : Finding) (rec d : ℕ) → HasScanned t u e f → IsHolder t rec d → IsHolder u rec d
+  scan_holder AllInactive rec d s h = holder_after t u _ rec d d (scan_went AllInactive s) h tt refl h.section
+  scan_holder (AllCurrent r) rec d s h = holder_after t u _ rec d d (scan_went (AllCurrent r) s) h tt refl h.section
+  scan_holder (OneBehind r x) rec d s h = holder_after t u _ rec d d (scan_went (OneBehind r x) s) h tt refl h.section
+
+  pub scan_rec : (f : Finding) → HasScanned t u e f → (state u).rec ≡ (state t).rec
+  scan_rec AllInactive s = ap (λ (x : TokenState). x.rec) s.at.state
+  scan_rec (AllCurrent r) s = ap (λ (x : TokenState). x.rec) s.at.state
+  scan_rec (OneBehind r x) s = ap (λ (x : TokenState). x.rec) s.at.state
+
+  pub scan_section : (f : Finding) → HasScanned t u e f → (state u).section ≡ (state t).section
+  scan_section AllInactive s = ap (λ (x : TokenState). x.section) s.at.state
+  scan_section (AllCurrent r) s = ap (λ (x : TokenState). x.section) s.at.state
+  scan_section (OneBehind r x) s = ap (λ (x : TokenState). x.section) s.at.state
+
+  pub scan_calls : (f : Finding) → HasScanned t u e f → (state u).calls ≡ (state t).calls + 1
+  scan_calls AllInactive s = ap (λ (x : TokenState). x.calls) s.at.state
+  scan_calls (AllCurrent r) s = ap (λ (x : TokenState). x.calls) s.at.state
+  scan_calls (OneBehind r x) s = ap (λ (x : TokenState). x.calls) s.at.state
+
+  pub scan_number : (f : Finding) → HasScanned t u e f → number u ≡ number t
+  scan_number f s = (scan_went f s).number
+
+  -- the list of e - 2 was dispatched first
+  module _ (late : 4 ≤ e) (b b' : Deferred) (are : AreDeferred t b) (is : IsEmptied ((e - 2) % 4) b.lists b'.lists) (w : b'.waiting ≡ b.waiting ++ items_of (items_on b.lists ((e - 2) % 4))) (calls calls' room room' : ℕ) where
+    abbrev R : ℕ
+    R = records_of (origin t)
+
+    abbrev list : ℕ
+    list = (e - 2) % 4
+
+    low : list < 4
+    low = omega arith
+
+    abbrev before : Member
+    before = record { token = t; calls = calls; waiting = b.waiting; room = room }
+
+    module _ (n : ℕ) (count : n ≡ length (items_on b.lists list)) where
+      pub ready_scan : (rec : ℕ) → HasScanned t u e (AllCurrent rec) → IsScan R e before (Ready n rec e) (record { token = u; calls = calls'; waiting = b'.waiting; room = room' })
+      ready_scan rec h = record {
+        steps = (refl, h.finds);
+        late = late;
+        dispatched = one_dispatched t b b' are list low is w u (ap (λ (x : TokenState). x.pending) h.at.state) (ap (λ (x : TokenState). x.dispatched) h.at.state);
+        pending = one_pending t b b' are list low is w u (ap (λ (x : TokenState). x.pending) h.at.state) (ap (λ (x : TokenState). x.dispatched) h.at.state);
+        waiting = one_waits t b b' are list low is w;
+        count = one_count t b b' are list low is w n count;
+        activity = ap (λ (x : TokenState). x.activity) h.at.state;
+      }
+
+      pub blocked_scan : (rec epoch : ℕ) → HasScanned t u e (OneBehind rec epoch) → IsScan R e before (Blocked n rec epoch) (record { token = u; calls = calls'; waiting = b'.waiting; room = room' })
+      blocked_scan rec epoch h = record {
+        steps = h.finds;
+        late = late;
+        dispatched = one_dispatched t b b' are list low is w u (ap (λ (x : TokenState). x.pending) h.at.state) (ap (λ (x : TokenState). x.dispatched) h.at.state);
+        pending = one_pending t b b' are list low is w u (ap (λ (x : TokenState). x.pending) h.at.state) (ap (λ (x : TokenState). x.dispatched) h.at.state);
+        waiting = one_waits t b b' are list low is w;
+        count = one_count t b b' are list low is w n count;
+        activity = ap (λ (x : TokenState). x.activity) h.at.state;
+      }
+
+    pub ready_deferred : (rec : ℕ) → HasScanned t u e (AllCurrent rec) → AreDeferred u b'
+    ready_deferred rec h = one_deferred t b b' are list low is w u (ap (λ (x : TokenState). x.pending) h.at.state) (ap (λ (x : TokenState). x.dispatched) h.at.state)
+
+    pub blocked_deferred : (rec epoch : ℕ) → HasScanned t u e (OneBehind rec epoch) → AreDeferred u b'
+    blocked_deferred rec epoch h = one_deferred t b b' are list low is w u (ap (λ (x : TokenState). x.pending) h.at.state) (ap (λ (x : TokenState). x.dispatched) h.at.state)
+
+    -- and all others where no record was active
+    module _ (h : HasScanned t u e AllInactive) (b'' : Deferred) (none : (l : ℕ) → l < 4 → items_on b''.lists l ≡ []) (w' : b''.waiting ≡ b'.waiting ++ items_of (in_a_row b'.lists)) where
+      pub clear_deferred : AreDeferred u b''
+      clear_deferred = all_deferred t b b' are list low is w b'' none w' u (ap (λ (x : TokenState). x.pending) h.at.state) (ap (λ (x : TokenState). x.dispatched) h.at.state)
+
+      pub clear_scan : (n m : ℕ) → n ≡ length (items_on b.lists list) → m ≡ length (in_a_row b'.lists) → IsScan R e before (Clear (n + m)) (record { token = u; calls = calls'; waiting = b''.waiting; room = room' })
+      clear_scan n m count count' = record {
+        steps = h.finds;
+        late = late;
+        dispatched = all_dispatched t b b' are list low is w b'' none w' u (ap (λ (x : TokenState). x.pending) h.at.state) (ap (λ (x : TokenState). x.dispatched) h.at.state);
+        pending = ap (λ (x : TokenState). queue x.pending) h.at.state;
+        waiting = all_waits t b b' are list low is w b'' none w';
+        count = all_count t b b' are list low is w b'' none w' n m count count';
+        activity = ap (λ (x : TokenState). x.activity) h.at.state;
+      }

@@ -1,0 +1,28 @@
+use Rattle.std.proofs.Common.{rules, ◌≡◌, ap, sym, subst, arith}
+use Rattle.ck_run.specs.Ends.{fresh}
+use Rattle.ck_run.proofs.Ends.{each_weaker}
+use Rattle.ck_registry.specs.State.{Origin, IsOpening}
+use Rattle.ck_registry.proofs.registry.Registry.new.Goals as goal
+
+pub visitors_of-requires-clause-fresh : goal.visitors_of-requires-clause-fresh
+visitors_of-requires-clause-fresh c =
+    let words = c.in_ok-words.words in
+    let same = c.in_ok-words.ensures.origin in
+    let tokens = ap (λ (o : Origin). o.tokens) same in
+    let count = c.part_all.ensures.ends.0 in
+    let some = c.requires.visitors.0 in (
+      words,
+      c.part_all.ensures.token,
+      each_weaker _ (λ n t. t ≡ fresh words n) 1 c.part_all.new.ends.items (λ n t low q. search rules) c.part_all.ensures.ends.1,
+      omega arith,
+      subst IsOpening (sym same) (c.in_ok-opening_words.ensures c.args.visitors c.requires.visitors.1),
+    )
+
+pub returns-clause-visitors : goal.returns-clause-visitors
+returns-clause-visitors c =
+    let words = c.in_ok-words.words in
+    let count = c.part_all.ensures.ends.0 in
+    let some = c.requires.visitors.0 in
+    let r = c.in_ok-given.ensures words c.part_all.ensures.token (each_weaker _ (λ n t. t ≡ fresh words n) 1 c.part_all.new.ends.items (λ n t low q. search rules) c.part_all.ensures.ends.1) in
+    let len = r.0 in
+    (omega arith, r.1)
