@@ -146,14 +146,18 @@ prove() {
     (CDPATH='' cd -- "$top/crates/$name" && rt "$@") </dev/null >>"$log" 2>&1
 }
 
+# Empties a file, or makes it. A shell ends where a redirection of `:` fails, and not where that of `true` does.
+make_empty() {
+    { true >"$1"; } 2>/dev/null
+}
+
 # Proves and builds the crates in their order, the program last, which is also run on its stored example. A source that
 # changes meanwhile is newer than the program, which gets the time of the build's begin.
 build() {
     command -v rt >/dev/null || give_up "cannot build the program ($1): the command rt is not on the PATH"
-    mkdir -p "$top/out" 2>/dev/null && : >"$log" 2>/dev/null || give_up "cannot build the program ($1): cannot write to $log"
+    mkdir -p "$top/out" 2>/dev/null && make_empty "$log" && make_empty "$top/out/begun" || give_up "cannot build the program ($1): cannot write to $log"
     say "building the program: $1. This takes some minutes; the prover's lines go to $log"
     begun=$(seconds)
-    : >"$top/out/begun"
     all=$(crates | wc -l)
     number=0
     for name in $(crates); do

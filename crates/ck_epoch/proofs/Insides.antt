@@ -4,8 +4,7 @@ use Rattle.std.proofs.lemmas.Bool.Decides.{nat_tests}
 use mathlib.Core.Logic.{dite}
 use native.Mathlib.Decide.{ℕ_discrete}
 use mathlib.Core.Option.{some}
-use lib.ListN.{get_elem?}
-use Rattle.atomic_table.proofs.Lists.{at_last, at_longer}
+use Rattle.atomic_table.proofs.Lists.{at_last}
 use Rattle.ck_run.specs.declared.account.Step.{Step}
 use Rattle.ck_run.specs.declared.account.Step.TheVariants.{Load, Store}
 use Rattle.ck_run.specs.declared.account.Entry.{Entry}
@@ -18,18 +17,9 @@ use Rattle.ck_run.proofs.Moments.{run_before, at_step}
 use Rattle.ck_epoch.specs.State.{base, active_word, epoch_word, Stage, outside, entering, holding, inside, free, scanning, comparing, between, at_depth, depth_of, TokenState, after_step, next, MayStep, May, Origin, records_of, epochs, state_at}
 use Rattle.ck_epoch.specs.Epochs.{IsOpen, stage_in, HasOpened}
 use Rattle.ck_epoch.specs.Held.{IsOfPass}
+use Rattle.ck_epoch.proofs.OpenSections.{still_open}
 use Rattle.ck_epoch.proofs.EpochLaw.{held_after}
-use Rattle.ck_run.proofs.Lists.{at_end, inside as index_below}
-
--- A section stays open at a step that doesn't end it
-pub still_open : (past : Run) (n : ℕ) (e : Entry) (r o : ℕ) → IsOpen past r o → (n ≡ suc r → e.step ≡ Store (active_word r) 0 → ⊥) → IsOpen (past ++ (n, e) ∷ []) r o
-still_open past n e r o h not_end = record {
-  opens = (h.opens.0, h.opens.1, at_longer past ((n, e) ∷ []) o (suc r, h.opens.0) h.opens.2, h.opens.3);
-  lasts = λ c after ends. ⊎_elim
-      (λ (old : get_elem? past c ≡ some (suc r, ends.0)). h.lasts c after (ends.0, old, ends.2))
-      (λ (new : (c ≡ length past) × ((n, e) ≡ (suc r, ends.0))). not_end (ap (λ (x : ℕ × Entry). x.0) new.1) (ap (λ (x : ℕ × Entry). x.1.step) new.1 ∙ ends.2))
-      (at_end past (n, e) (suc r, ends.0) c ends.1);
-}
+use Rattle.ck_run.proofs.Lists.{inside as index_below}
 
 -- By induction along a run: what holds at its beginning and is kept by each of its steps holds at its end
 pub along : (P : Run → Type 0) (run : Run) → ((past : Run) (n : ℕ) (e : Entry) (rest : Run) → run ≡ past ++ (n, e) ∷ rest → P past → P (past ++ (n, e) ∷ [])) → P [] → P run

@@ -36,6 +36,16 @@ module _ (past : Run) (n : ℕ) (e : Entry) (r o : ℕ) (h : IsOpen (past ++ (n,
   pub not_ended : IsOpen past r o → n ≡ suc r → e.step ≡ Store (active_word r) 0 → ⊥
   not_ended old mine ends = h.lasts (length past) (opened_before past r o old) (e, at_last past (n, e) (length past) refl ∙ ap (λ (k : ℕ). some (k, e)) mine, ends)
 
+-- A section stays open at a step that doesn't end it
+pub still_open : (past : Run) (n : ℕ) (e : Entry) (r o : ℕ) → IsOpen past r o → (n ≡ suc r → e.step ≡ Store (active_word r) 0 → ⊥) → IsOpen (past ++ (n, e) ∷ []) r o
+still_open past n e r o h not_end = record {
+  opens = (h.opens.0, h.opens.1, at_longer past ((n, e) ∷ []) o (suc r, h.opens.0) h.opens.2, h.opens.3);
+  lasts = λ c after ends. ⊎_elim
+      (λ (old : get_elem? past c ≡ some (suc r, ends.0)). h.lasts c after (ends.0, old, ends.2))
+      (λ (new : (c ≡ length past) × ((n, e) ≡ (suc r, ends.0))). not_end (ap (λ (x : ℕ × Entry). x.0) new.1) (ap (λ (x : ℕ × Entry). x.1.step) new.1 ∙ ends.2))
+      (at_end past (n, e) (suc r, ends.0) c ends.1);
+}
+
 -- a section that is open at the end was open at each moment since it opened
 pub was_open : (run more : Run) (r o : ℕ) → o < length run → IsOpen (run ++ more) r o → IsOpen run r o
 was_open run more r o low h = record {

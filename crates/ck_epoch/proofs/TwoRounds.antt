@@ -236,7 +236,7 @@ module _ {C : Type 0} (client : Client C) (passes : Passes client) (t : Token C)
           )
 
 -- after both rounds no section is open that was open at the call
-pub have_ended : {C : Type 0} (client : Client C) (passes : Passes client) (t u : Token C) (n : ℕ) (all : Bool) → IsWriterFree client t → origin u ≡ origin t → number u ≡ 0 → state u ≡ after_rounds all (state t) n → HaveEnded client t u
+have_ended : {C : Type 0} (client : Client C) (passes : Passes client) (t u : Token C) (n : ℕ) (all : Bool) → IsWriterFree client t → origin u ≡ origin t → number u ≡ 0 → state u ≡ after_rounds all (state t) n → HaveEnded client t u
 have_ended client passes t u n all f same first is past rest more run made r o low open_ older =
     let org = origin t in
     let k = cut 0 past (did u) more made in
@@ -261,11 +261,11 @@ module _ {C : Type 0} (client : Client C) (t : Token C) (b : Backlog) (w : IsBet
     calls_after : (a : Bool) → (after_rounds a (state t) n).calls ≡ (state t).calls + 1
     calls_after a = refl
 
-    pub counts_more : (calls : ℕ) → (state t).calls ≤ calls → (state u).calls ≤ calls + 1
+    counts_more : (calls : ℕ) → (state t).calls ≤ calls → (state u).calls ≤ calls + 1
     counts_more calls counts = let z : (state u).calls ≡ (state t).calls + 1 = ap (λ (s : TokenState). s.calls) is in omega arith
 
     -- its queue is what its account tells
-    pub writer_after : (c : Backlog) → AreListsOf c.lists (queue (after_rounds all (state t) n).pending) → AreRetired (client.retires (origin t).config.client) (queue (after_rounds all (state t) n).pending) → IsBetween client u c
+    writer_after : (c : Backlog) → AreListsOf c.lists (queue (after_rounds all (state t) n).pending) → AreRetired (client.retires (origin t).config.client) (queue (after_rounds all (state t) n).pending) → IsBetween client u c
     writer_after c pending retired = record {
       part = part;
       first = number_is ∙ w.first;
@@ -274,3 +274,13 @@ module _ {C : Type 0} (client : Client C) (t : Token C) (b : Backlog) (w : IsBet
       retired = subst (λ (s : TokenState). AreRetired (client.retires (origin u).config.client) (queue s.pending)) (sym is)
           (subst (λ (x : Table (About C)). AreRetired (client.retires x.origin.config.client) (queue (after_rounds all (state t) n).pending)) (sym same) retired);
     }
+
+    -- the writer between two calls again
+    pub both_after : (c : Backlog) → AreListsOf c.lists (queue (after_rounds all (state t) n).pending) → AreRetired (client.retires (origin t).config.client) (queue (after_rounds all (state t) n).pending)
+        → (calls : ℕ) → (state t).calls ≤ calls → IsBetween client u c × ((state u).calls ≤ calls + 1)
+    both_after c pending retired calls counts = (writer_after c pending retired, counts_more calls counts)
+
+  -- after its steps the sections that were open have ended
+  pub ended_after : (passes : Passes client) (u : Token C) (all : Bool) (calls : ℕ) → (state t).calls ≤ calls → calls < 2 ^ 40 → (records name e : ℕ) → Rounds records name e t u
+      → state u ≡ after_rounds all (state t) (state u).steps → HaveEnded client t u
+  ended_after passes u all calls counts few records name e rounds is = have_ended client passes t u (state u).steps all (is_free calls counts few) (ap origin rounds.4) (ap number rounds.4 ∙ w.first) is

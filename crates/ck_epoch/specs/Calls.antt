@@ -9,7 +9,7 @@ use Rattle.ck_run.specs.Tokens.{did, origin, number, adding}
 use Rattle.ck_epoch.specs.declared.item.Retired.{Retired}
 use Rattle.ck_epoch.specs.declared.answers.Poll.{Poll}
 use Rattle.ck_epoch.specs.declared.answers.Poll.TheVariants.{Clear, Moved, Blocked}
-use Rattle.ck_epoch.specs.State.{Token, active_word, epoch_word, begin, poll, depth, base_of}
+use Rattle.ck_epoch.specs.State.{Token, active_word, epoch_word, begin, poll, depth, base_of, state}
 use Rattle.ck_epoch.specs.Lists.{on, off, by_list}
 use Rattle.ck_epoch.specs.Client.{Client}
 
@@ -108,6 +108,10 @@ module _ {C : Type 0} where
   Polls records e t (Clear n) u = FindsNoneActive records e t u
   Polls records e t (Moved n rec) u = Moves records e rec t u
   Polls records e t (Blocked n rec epoch) u = IsBlocked e rec epoch t u
+
+  -- From t to u the writer retired and dispatched nothing, and raised no epoch
+  abbrev pub SameItemsAndEpoch : Token C → Token C → Type 0
+  SameItemsAndEpoch t u = ((state u).pending ≡ (state t).pending) × ((state u).dispatched ≡ (state t).dispatched) × ((state u).epoch ≡ (state t).epoch)
 
   -- the client allows the token this step
   abbrev pub MayFollow : Client C → Token C → Entry → Type 0

@@ -73,11 +73,7 @@ fn home(item: Item) -> Back {
 
 #[test]
 fn a_word_that_a_reader_told_is_asked(rt: HostRuntime) -> Result<(), Fail> {
-    let (domain, mut writer, mut pass) = one_reader(
-        rt.alloc(),
-        Board { start: 7 },
-        |item: Item| home(item),
-    )?;
+    let (domain, mut writer, mut pass) = one_reader(rt.alloc(), Board { start: 7 }, home)?;
     assert_eq!(rt; domain.ask::<Brand, _>(&mut writer, 1), 7);
     domain.tell::<Brand>(&mut pass, 1, 5);
     assert_eq!(rt; domain.ask::<Brand, _>(&mut writer, 1), 5);
@@ -92,11 +88,7 @@ fn a_word_that_a_reader_told_is_asked(rt: HostRuntime) -> Result<(), Fail> {
 
 #[test]
 fn a_domain_keeps_its_client(rt: HostRuntime) -> Result<(), Fail> {
-    let (domain, _writer, _pass) = one_reader(
-        rt.alloc(),
-        Board { start: 9 },
-        |item: Item| home(item),
-    )?;
+    let (domain, _writer, _pass) = one_reader(rt.alloc(), Board { start: 9 }, home)?;
     let client = domain.client();
     assert_eq!(rt; client.start, 9);
     assert_eq!(rt;

@@ -3,9 +3,9 @@ ghost use Rattle.std.specs.Prelude.{◌≡◌, ℕ, ◌+◌, ◌<◌, ◌^◌, t
 ghost use Rattle.ck_run.specs.declared.account.Step.TheVariants.{Load, Store};
 ghost use Rattle.ck_run.specs.Run.{entry};
 ghost use Rattle.ck_run.specs.Tokens.{table, adding};
-ghost use Rattle.ck_epoch.specs.State.{state, depth, base_of};
+ghost use Rattle.ck_epoch.specs.State.{depth, base_of};
 ghost use Rattle.ck_epoch.specs.Ends.{IsDomainToken, IsReading, IsWriting};
-ghost use Rattle.ck_epoch.specs.Calls.{MayFollow};
+ghost use Rattle.ck_epoch.specs.Calls.{SameItemsAndEpoch, MayFollow};
 
 use crate::client::Client;
 use crate::domain::Domain;
@@ -47,7 +47,7 @@ impl<C: Client> Domain<C> {
         requires word { at < C.meaning.size self.now.origin.config.client }
         requires client { IsWriting C.meaning writer.old.token → (n : ℕ) → n < 2 ^ 64 → MayFollow C.meaning writer.old.token (entry O.opens (Load (base_of self.now.origin + at) n)) }
         ensures step { writer.new ≡ record writer.old { token = adding writer.old.token (entry O.opens (Load (base_of self.now.origin + at) result) ∷ []) } }
-        ensures same { ((state writer.new.token).pending ≡ (state writer.old.token).pending) × ((state writer.new.token).dispatched ≡ (state writer.old.token).dispatched) × ((state writer.new.token).epoch ≡ (state writer.old.token).epoch) }
+        ensures same { SameItemsAndEpoch writer.old.token writer.new.token }
         ensures part { IsDomainToken C.meaning writer.new.token }
     {
         let word = base_word(self.about.records) + at as usize;
@@ -60,7 +60,7 @@ impl<C: Client> Domain<C> {
         requires word { at < C.meaning.size self.now.origin.config.client }
         requires client { IsWriting C.meaning writer.old.token → MayFollow C.meaning writer.old.token (entry O.opens (Store (base_of self.now.origin + at) value)) }
         ensures step { writer.new ≡ record writer.old { token = adding writer.old.token (entry O.opens (Store (base_of self.now.origin + at) value) ∷ []) } }
-        ensures same { ((state writer.new.token).pending ≡ (state writer.old.token).pending) × ((state writer.new.token).dispatched ≡ (state writer.old.token).dispatched) × ((state writer.new.token).epoch ≡ (state writer.old.token).epoch) }
+        ensures same { SameItemsAndEpoch writer.old.token writer.new.token }
         ensures part { IsDomainToken C.meaning writer.new.token }
     {
         let word = base_word(self.about.records) + at as usize;

@@ -88,6 +88,15 @@ pub(crate) fn home(item: Item) -> Back
 
 pub(crate) const BLOCK: Item = Item { at: 8, log: 3 };
 
+// The answer of a poll that found the first record active with this epoch, and dispatched nothing.
+pub(crate) fn blocked_at(epoch: u64) -> Poll {
+    Poll::Blocked {
+        n: 0,
+        rec: 0,
+        epoch,
+    }
+}
+
 /// A domain with one record: its writer, which has room for four items and answers, and its pass.
 pub(crate) fn one_reader<C: Client + Drop, F: Fn(Item) -> Back + Drop>(
     alloc: Global,
@@ -108,18 +117,11 @@ pub(crate) fn one_reader<C: Client + Drop, F: Fn(Item) -> Back + Drop>(
 
 #[test]
 fn gives_back_once_the_older_section_ended(rt: HostRuntime) -> Result<(), Fail> {
-    let (domain, mut writer, mut pass) = one_reader(rt.alloc(), Counter, |item: Item| home(item))?;
+    let (domain, mut writer, mut pass) = one_reader(rt.alloc(), Counter, home)?;
     domain.begin(&mut pass);
     domain.call::<Brand, _>(&mut writer, BLOCK);
     assert_eq!(rt; domain.poll(&mut writer), Poll::Moved { n: 0, rec: 0 });
-    assert_eq!(rt;
-        domain.poll(&mut writer),
-        Poll::Blocked {
-            n: 0,
-            rec: 0,
-            epoch: 4
-        }
-    );
+    assert_eq!(rt; domain.poll(&mut writer), blocked_at(4));
     domain.end(&mut pass);
     assert_eq!(rt; domain.poll(&mut writer), Poll::Clear { n: 1 });
     assert_eq!(rt; (writer.pending(), writer.waiting()), (0, 1));
@@ -130,35 +132,21 @@ fn gives_back_once_the_older_section_ended(rt: HostRuntime) -> Result<(), Fail> 
 
 #[test]
 fn waits_for_the_outermost_section(rt: HostRuntime) -> Result<(), Fail> {
-    let (domain, mut writer, mut pass) = one_reader(rt.alloc(), Counter, |item: Item| home(item))?;
+    let (domain, mut writer, mut pass) = one_reader(rt.alloc(), Counter, home)?;
     domain.begin(&mut pass);
     domain.begin(&mut pass);
     domain.call::<Brand, _>(&mut writer, BLOCK);
     assert_eq!(rt; domain.poll(&mut writer), Poll::Moved { n: 0, rec: 0 });
-    assert_eq!(rt;
-        domain.poll(&mut writer),
-        Poll::Blocked {
-            n: 0,
-            rec: 0,
-            epoch: 4
-        }
-    );
+    assert_eq!(rt; domain.poll(&mut writer), blocked_at(4));
     domain.end(&mut pass);
     assert_eq!(rt; (pass.rec(), pass.depth(), pass.calls()), (0, 1, 3));
-    assert_eq!(rt;
-        domain.poll(&mut writer),
-        Poll::Blocked {
-            n: 0,
-            rec: 0,
-            epoch: 4
-        }
-    );
+    assert_eq!(rt; domain.poll(&mut writer), blocked_at(4));
     Ok(())
 }
 
 #[test]
 fn gives_back_beside_a_younger_section(rt: HostRuntime) -> Result<(), Fail> {
-    let (domain, mut writer, mut pass) = one_reader(rt.alloc(), Counter, |item: Item| home(item))?;
+    let (domain, mut writer, mut pass) = one_reader(rt.alloc(), Counter, home)?;
     domain.begin(&mut pass);
     domain.call::<Brand, _>(&mut writer, BLOCK);
     assert_eq!(rt; domain.poll(&mut writer), Poll::Moved { n: 0, rec: 0 });

@@ -2,7 +2,7 @@ ghost use Rattle.std.specs.Prelude.{◌≡◌, ◌+◌, ◌<◌, ◌^◌, length
 ghost use Rattle.ck_run.specs.Tokens.{table};
 ghost use Rattle.ck_epoch.specs.State.{state, depth};
 
-use crate::tests::{BLOCK, Counter, home, one_reader};
+use crate::tests::{BLOCK, Counter, blocked_at, home, one_reader};
 use crate::{Domain, Item, Pass, Poll};
 use crossbeam_utils::Backoff;
 use std::marker::Brand;
@@ -14,7 +14,7 @@ use std::thread::join_mut;
 
 #[test]
 fn barrier_gives_back_what_is_pending(rt: HostRuntime) -> Result<(), Fail> {
-    let (domain, mut writer, mut pass) = one_reader(rt.alloc(), Counter, |item: Item| home(item))?;
+    let (domain, mut writer, mut pass) = one_reader(rt.alloc(), Counter, home)?;
     domain.call::<Brand, _>(&mut writer, BLOCK);
     assert_eq!(rt; domain.barrier(&rt, &mut writer), 1);
     assert_eq!(rt; domain.next_back(&mut writer), Some(home(BLOCK)));
@@ -22,14 +22,7 @@ fn barrier_gives_back_what_is_pending(rt: HostRuntime) -> Result<(), Fail> {
     domain.begin(&mut pass);
     domain.call::<Brand, _>(&mut writer, Item { at: 16, log: 3 });
     assert_eq!(rt; domain.poll(&mut writer), Poll::Moved { n: 0, rec: 0 });
-    assert_eq!(rt;
-        domain.poll(&mut writer),
-        Poll::Blocked {
-            n: 0,
-            rec: 0,
-            epoch: 6
-        }
-    );
+    assert_eq!(rt; domain.poll(&mut writer), blocked_at(6));
     Ok(())
 }
 
@@ -86,7 +79,7 @@ fn barrier_waits_for_the_open_section(rt: HostRuntime) -> Result<(), Fail> {
 
 #[test]
 fn synchronize_returns_where_no_section_is_open(rt: HostRuntime) -> Result<(), Fail> {
-    let (domain, mut writer, mut pass) = one_reader(rt.alloc(), Counter, |item: Item| home(item))?;
+    let (domain, mut writer, mut pass) = one_reader(rt.alloc(), Counter, home)?;
     domain.call::<Brand, _>(&mut writer, BLOCK);
     domain.synchronize(&rt, &mut writer);
     assert_eq!(rt;
@@ -96,14 +89,7 @@ fn synchronize_returns_where_no_section_is_open(rt: HostRuntime) -> Result<(), F
     domain.begin(&mut pass);
     // The global epoch is 6 now, so the first poll dispatches what was retired at 4.
     assert_eq!(rt; domain.poll(&mut writer), Poll::Moved { n: 1, rec: 0 });
-    assert_eq!(rt;
-        domain.poll(&mut writer),
-        Poll::Blocked {
-            n: 0,
-            rec: 0,
-            epoch: 6
-        }
-    );
+    assert_eq!(rt; domain.poll(&mut writer), blocked_at(6));
     Ok(())
 }
 

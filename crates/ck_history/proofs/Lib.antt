@@ -3,3 +3,4 @@ pub mod Order
 mod Index
 pub mod Step
 pub mod Placing
+mod Dropping

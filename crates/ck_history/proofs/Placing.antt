@@ -3,6 +3,8 @@ use Rattle.std.proofs.Common.{◌≡◌, ℕ, ◌≤◌, max, List, [], ◌∷�
 use Rattle.std.proofs.lemmas.List.{take-append-le}
 use Rattle.std.specs.declared.cmp.Ordering.{Ordering}
 use Rattle.ck_history.specs.declared.update.Update.{Update}
+use Rattle.ck_history.specs.declared.edit.Edit.{Edit}
+use Rattle.ck_history.specs.Lists.{empty_lists, lists_after_from, committed_after}
 use Rattle.ck_history.specs.Map.{find, after_from, answer_after}
 use Rattle.ck_history.specs.declared.event.ReaderEvent.{ReaderEvent}
 use Rattle.ck_history.specs.declared.event.ReaderEvent.TheVariants.{Answered, Reached}
@@ -51,3 +53,7 @@ module _ {Q A : Type 0} where
 -- in a map, later updates change no answer after fewer of them
 pub answer_after-append : {K : Type 0} (cmp : K → K → Ordering) (most : ℕ) (us more : List (Update K)) (p : ℕ) (k : K) → p ≤ length us → answer_after cmp most (us ++ more) p k ≡ answer_after cmp most us p k
 answer_after-append cmp most us more p k le = ap (λ vs. find cmp (after_from cmp most [] vs) k) (take-append-le p us more le)
+
+-- nor do later edits change what a reader of the list is given after fewer of them
+pub committed_after-append : (es more : List Edit) (p : ℕ) → p ≤ length es → committed_after (es ++ more) p ≡ committed_after es p
+committed_after-append es more p le = ap (λ ds. (lists_after_from empty_lists ds).committed) (take-append-le p es more le)

@@ -7,3 +7,4 @@ pub mod Places
 pub mod Legal
 pub mod Index
 pub mod Room
+pub mod Lists

@@ -29,7 +29,8 @@ use Rattle.ck_htlaw.specs.Linearized.{updates, map_after, AreReplies, update_of}
 use Rattle.ck_htplan.proofs.Says.{Says}
 use Rattle.ck_htlaw.proofs.Planning.{missing}
 use Rattle.ck_htlaw.proofs.Soundness.{now, plan_says}
-use Rattle.ck_htlaw.proofs.Lives.{opt, nat_exact, live_keys}
+use Rattle.ck_slots.proofs.Lives.{nat_exact}
+use Rattle.ck_htlaw.proofs.Lives.{opt, live_keys}
 
 -- a map stays in order
 pub step_sorted : (m : Map ℕ) (u : Update ℕ) → IsMap nat_cmp m → IsMap nat_cmp (step nat_cmp most m u).0

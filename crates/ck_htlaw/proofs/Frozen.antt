@@ -80,22 +80,16 @@ module _ (l : Layout) (ws : List ℕ) (p : WriterState) (h : WriterInvariant l w
         (λ z. let high = h.region.slots_high z.0 z.1 z.2 z.3 in let low = r.counter_low in let f = z.4 in absurd (omega arith))
         (λ z. let y = z.2 in let high = (hidden z.0 z.1).1.slots_high y.0 y.1 y.2 y.3 in let low = r.counter_low in let f = y.4 in absurd (omega arith)) c) c) c
 
+no_act : (l : Layout) (p : WriterState) (a : Action) (x old new found : ℕ) → MayDo l p a (Exchange x old new found) → ⊥
+no_act l p (inserts empty w) x old new found m = m
+no_act l p (inserts reuse w) x old new found m = m
+no_act l p (inserts (move from) w) x old new found m = m
+no_act l p a x old new found m = m
+
 -- the writer's steps on the table's words are loads and stores
 pub no_exchange : (l : Layout) (p : WriterState) (a : Action) (g : Stage) (x old new found : ℕ) → MayWriterStep l p a g (Exchange x old new found) → ⊥
-no_exchange l p a idle x old new found may = no_act a may
-  where
-    no_act : (a : Action) → MayDo l p a (Exchange x old new found) → ⊥
-    no_act (inserts empty w) m = m
-    no_act (inserts reuse w) m = m
-    no_act (inserts (move from) w) m = m
-    no_act a m = m
-no_exchange l p a (after_rebuild c) x old new found may = no_act a may
-  where
-    no_act : (a : Action) → MayDo l p a (Exchange x old new found) → ⊥
-    no_act (inserts empty w) m = m
-    no_act (inserts reuse w) m = m
-    no_act (inserts (move from) w) m = m
-    no_act a m = m
+no_exchange l p a idle x old new found may = no_act l p a x old new found may
+no_exchange l p a (after_rebuild c) x old new found may = no_act l p a x old new found may
 no_exchange l p a (copying c root j g) x old new found may = no_copy a g may
   where
     no_copy : (a : Action) (g : Stage) → MayCopy l root a g (Exchange x old new found) → ⊥

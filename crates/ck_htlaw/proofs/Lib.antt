@@ -33,3 +33,4 @@ pub mod Reaching
 pub mod Answered
 pub mod Bridge
 pub mod Bits
+pub mod Tokens

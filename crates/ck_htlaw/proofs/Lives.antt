@@ -1,13 +1,10 @@
 -- There are as many full slots as pairs in the map that the slots stand for.
-use Rattle.std.proofs.Common.{◌≡◌, ◌≢◌, ℕ, zero, suc, ◌+◌, ◌<◌, ◌≤◌, ⊎_elim, Bool, true, false, cond, nat_lt, [], ◌∷◌, length, refl, sym, ap, ◌∙◌, arith}
+use Rattle.std.proofs.Common.{◌≡◌, ◌≢◌, ℕ, zero, suc, ◌+◌, ◌<◌, ◌≤◌, ⊎_elim, cond, length, refl, sym, ap, ◌∙◌, arith}
 use Rattle.std.specs.Prelude.{Option, Some, None}
-use Rattle.std.specs.declared.cmp.Ordering.TheVariants.{Less, Equal, Greater}
-use Rattle.std.specs.Ordering.{nat_cmp, is_eq}
-use Rattle.std.specs.Cmp.{tied_itself, nat_cmp_is}
+use Rattle.std.specs.Ordering.{nat_cmp}
 use Rattle.std.specs.Map.{remove_entry}
 use Rattle.std.specs.BTreeMap.{is_at}
 use Rattle.std.proofs.lemmas.Cmp.{nat_cmp_total}
-use Rattle.std.proofs.lemmas.Bool.Decides.{nat_tests}
 use mathlib.Core.Logic.{dite}
 use native.Mathlib.Decide.{ℕ_discrete}
 use Rattle.ck_history.specs.Map.{Map, IsMap, find}
@@ -16,36 +13,15 @@ use Rattle.ck_slots.specs.Slots.{Order, IsOrder, SlotsView, Holds}
 use Rattle.ck_slots.specs.Counting.{count}
 use Rattle.ck_slots.proofs.Counts.{count_here, count_else}
 use Rattle.ck_slots.proofs.Maps.{find-remove_entry, find-remove_entry_other}
+use Rattle.ck_slots.proofs.Slots.{tested}
+use Rattle.ck_slots.proofs.Lives.{nat_exact, removed_length, empty_length}
 use Rattle.ck_htlaw.specs.Stages.{idle, Maps, IsMap as IsSlotMap, parts}
-use Rattle.ck_htlaw.proofs.Parts.{tested, parts_all, parts_step}
+use Rattle.ck_htlaw.proofs.Parts.{parts_all, parts_step}
 
 -- the map's answer of a number that is 0 for an absent key, and else 1 more than its value
 abbrev pub opt : ℕ → Option ℕ
 opt zero = None
 opt (suc x) = Some x
-
-tell_apart : (x y : ℕ) → x ≢ y → nat_cmp x y ≡ Equal → ⊥
-tell_apart x y n e = by (nat_lt x y) refl
-  where
-    by : (b : Bool) → nat_lt x y ≡ b → ⊥
-    by true is = let z : Less ≡ Equal = nat_cmp_is x y Less (grind (arith, nat_tests)) ∙ e in absurd cc
-    by false is = let z : Greater ≡ Equal = nat_cmp_is x y Greater (grind (arith, nat_tests)) ∙ e in absurd cc
-
-pub nat_exact : (j k : ℕ) → nat_cmp j k ≡ Equal → j ≡ k
-nat_exact j k e = dite (ℕ_discrete j k) (λ (same : j ≡ k). same) (λ (n : j ≢ k). absurd (tell_apart j k n e))
-
-module _ (k : ℕ) where
-  removed_length : (x : ℕ) (m : Map ℕ) → find nat_cmp m k ≡ Some x → length (remove_entry (is_at (nat_cmp k)) m) + 1 ≡ length m
-  removed_length x [] e = absurd (let z : None ≡ Some x = e in cc)
-  removed_length x (a ∷ m) e = by (is_at (nat_cmp k) a.0) refl (λ r. removed_length x m r)
-    where
-      by : (b : Bool) → is_at (nat_cmp k) a.0 ≡ b → (find nat_cmp m k ≡ Some x → length (remove_entry (is_at (nat_cmp k)) m) + 1 ≡ length m) → length (cond b m (a ∷ remove_entry (is_at (nat_cmp k)) m)) + 1 ≡ length (a ∷ m)
-      by true i more = omega arith
-      by false i more = let r = more (sym (ap (λ (b : Bool). cond b (Some a.1) (find nat_cmp m k)) i) ∙ e) in omega arith
-
-empty_length : (m : Map ℕ) → ((k : ℕ) → find nat_cmp m k ≡ None) → length m ≡ 0
-empty_length [] none = refl
-empty_length (a ∷ m) none = absurd (let z : Some a.1 ≡ None = sym (ap (λ (b : Bool). cond b (Some a.1) (find nat_cmp m a.0)) (ap is_eq (tied_itself nat_cmp_total a.0))) ∙ none a.0 in cc)
 
 module _ (o : Order) (ok : IsOrder o) (v : SlotsView) (maps : Maps) (q : ℕ) (h : IsSlotMap o v maps q idle) where
   -- of the slots below j
@@ -68,11 +44,11 @@ module _ (o : Order) (ok : IsOrder o) (v : SlotsView) (maps : Maps) (q : ℕ) (h
       one a b e = omega arith
 
       skip : (k j : ℕ) → j < o.slots → v.state j ≢ 1 → parts o v (suc j) k ≡ parts o v j k
-      skip k j b none = tested o ok v (λ t. cond t (suc (v.value j)) (parts o v j k) ≡ parts o v j k) k j b (λ y. absurd (none y.full)) (λ y. refl)
+      skip k j b none = tested o v (λ t. cond t (suc (v.value j)) (parts o v j k) ≡ parts o v j k) k j b (λ y. absurd (none y.full)) (λ y. refl)
 
       none_below : (k j i : ℕ) → Holds o v k j → i ≤ j → parts o v i k ≡ 0
       none_below k j zero y le = refl
-      none_below k j (suc i) y le = let inside = y.inside in tested o ok v (λ t. cond t (suc (v.value i)) (parts o v i k) ≡ 0) k i (omega arith)
+      none_below k j (suc i) y le = let inside = y.inside in tested o v (λ t. cond t (suc (v.value i)) (parts o v i k) ≡ 0) k i (omega arith)
           (λ z. absurd (let same : i ≡ j = ⊎_elim (λ (e : i ≡ j). e) (λ x. absurd (⊎_elim (λ (n : ⊥). n) (λ (n : ⊥). n) x)) (h.once k i j z y) in omega arith)) (λ z. none_below k j i y (omega arith))
 
       fresh : (k j : ℕ) → Holds o v k j → parts o v j k ≡ 0

@@ -1,31 +1,21 @@
 -- The map of the pairs that stand in the slots below a number.
-use Rattle.std.proofs.Common.{◌≡◌, ◌≢◌, ℕ, zero, suc, ◌+◌, ◌-◌, ◌<◌, ◌≤◌, ◌⊎◌, ⊎_elim, refl, sym, ap, ◌∙◌, subst, arith, Bool, true, false, cond, ◌==◌, ◌&&◌, eq-eqb, ne_eqb}
-use mathlib.Core.Logic.{dite}
-use native.Mathlib.Decide.{ℕ_discrete}
+use Rattle.std.proofs.Common.{◌≡◌, ◌≢◌, ℕ, zero, suc, ◌+◌, ◌-◌, ◌<◌, ◌≤◌, ◌⊎◌, ⊎_elim, refl, sym, ap, ◌∙◌, subst, arith, cond}
 use Rattle.ck_slots.specs.Slots.{Order, IsOrder, SlotsView, Holds}
-use Rattle.ck_htlaw.specs.Stages.{idle, Maps, IsMap, IsStep, holds_test, parts, NoneFull}
+use Rattle.ck_slots.proofs.Slots.{tested}
+use Rattle.ck_htlaw.specs.Stages.{idle, Maps, IsMap, IsStep, parts, NoneFull}
 use Rattle.ck_htlaw.proofs.Maps.{holds_one}
 
 module _ (o : Order) (ok : IsOrder o) (v : SlotsView) where
-  pub tested : (P : Bool → Type 0) (k s : ℕ) → s < o.slots → (Holds o v k s → P true) → ((Holds o v k s → ⊥) → P false) → P (holds_test o v k s)
-  tested P k s b yes_case no_case = dite (ℕ_discrete (v.state s) 1)
-      (λ (e : v.state s ≡ 1). subst (λ (z : Bool). P (z && ((v.low s == o.low_of k) && (v.high s == o.high_of k)))) (sym (eq-eqb (v.state s) 1 e)) (dite (ℕ_discrete (v.low s) (o.low_of k))
-      (λ (d : v.low s ≡ o.low_of k). subst (λ (z : Bool). P (z && (v.high s == o.high_of k))) (sym (eq-eqb (v.low s) (o.low_of k) d)) (dite (ℕ_discrete (v.high s) (o.high_of k))
-      (λ (u : v.high s ≡ o.high_of k). subst P (sym (eq-eqb (v.high s) (o.high_of k) u)) (yes_case record { inside = b; full = e; is_low = d; is_high = u }))
-      (λ (n : v.high s ≢ o.high_of k). subst P (sym (ne_eqb (v.high s) (o.high_of k) n)) (no_case (λ h. n h.is_high)))))
-      (λ (n : v.low s ≢ o.low_of k). subst (λ (z : Bool). P (z && (v.high s == o.high_of k))) (sym (ne_eqb (v.low s) (o.low_of k) n)) (no_case (λ h. n h.is_low)))))
-      (λ (n : v.state s ≢ 1). subst (λ (z : Bool). P (z && ((v.low s == o.low_of k) && (v.high s == o.high_of k)))) (sym (ne_eqb (v.state s) 1 n)) (no_case (λ h. n h.full)))
-
   pub parts_step : (k j : ℕ) → Holds o v k j → IsStep (parts o v) (parts o v) j k (suc (v.value j))
   parts_step k j h = record {
     same = λ p i b. refl;
-    here = tested (λ b. cond b (suc (v.value j)) (parts o v j k) ≡ suc (v.value j)) k j h.inside (λ y. refl) (λ n. absurd (n h));
-    others = λ i n. tested (λ b. cond b (suc (v.value j)) (parts o v j i) ≡ parts o v j i) i j h.inside (λ y. absurd (n (holds_one o v ok i k j y h))) (λ y. refl);
+    here = tested o v (λ b. cond b (suc (v.value j)) (parts o v j k) ≡ suc (v.value j)) k j h.inside (λ y. refl) (λ n. absurd (n h));
+    others = λ i n. tested o v (λ b. cond b (suc (v.value j)) (parts o v j i) ≡ parts o v j i) i j h.inside (λ y. absurd (n (holds_one o v ok i k j y h))) (λ y. refl);
   }
 
   skips : (d j k : ℕ) → d + j ≤ o.slots → NoneFull v j (d + j) → parts o v (d + j) k ≡ parts o v j k
   skips zero j k b none = let e : zero + j ≡ j = omega arith in ap (λ (z : ℕ). parts o v z k) e
-  skips (suc d) j k b none = let e : suc d + j ≡ suc (d + j) = omega arith in ap (λ (z : ℕ). parts o v z k) e ∙ (tested (λ t. cond t (suc (v.value (d + j))) (parts o v (d + j) k) ≡ parts o v (d + j) k) k (d + j) (omega arith)
+  skips (suc d) j k b none = let e : suc d + j ≡ suc (d + j) = omega arith in ap (λ (z : ℕ). parts o v z k) e ∙ (tested o v (λ t. cond t (suc (v.value (d + j))) (parts o v (d + j) k) ≡ parts o v (d + j) k) k (d + j) (omega arith)
       (λ y. absurd (none (d + j) (omega arith) (omega arith) y.full)) (λ y. refl) ∙ skips d j k (omega arith) (λ s l h. none s l (omega arith)))
 
   pub parts_skip : (j i k : ℕ) → j ≤ i → i ≤ o.slots → NoneFull v j i → parts o v i k ≡ parts o v j k
@@ -35,12 +25,12 @@ module _ (o : Order) (ok : IsOrder o) (v : SlotsView) where
   module _ (maps : Maps) (q : ℕ) (h : IsMap o v maps q idle) where
     none_at : (k j : ℕ) → j ≤ o.slots → maps q k ≡ 0 → parts o v j k ≡ 0
     none_at k zero b e = refl
-    none_at k (suc j) b e = tested (λ t. cond t (suc (v.value j)) (parts o v j k) ≡ 0) k j (omega arith)
+    none_at k (suc j) b e = tested o v (λ t. cond t (suc (v.value j)) (parts o v j k) ≡ 0) k j (omega arith)
         (λ y. ⊎_elim (λ (z : ⊥). absurd z) (λ (z : maps q k ≡ suc (v.value j)). absurd (omega arith)) (h.present k j y)) (λ y. none_at k j (omega arith) e)
 
     some_at : (k s : ℕ) → Holds o v k s → (j : ℕ) → j ≤ o.slots → s < j → parts o v j k ≡ suc (v.value s)
     some_at k s x zero b l = absurd (omega arith)
-    some_at k s x (suc j) b l = tested (λ t. cond t (suc (v.value j)) (parts o v j k) ≡ suc (v.value s)) k j (omega arith)
+    some_at k s x (suc j) b l = tested o v (λ t. cond t (suc (v.value j)) (parts o v j k) ≡ suc (v.value s)) k j (omega arith)
         (λ y. ap (λ (z : ℕ). suc (v.value z)) (⊎_elim (λ (z : j ≡ s). z) (λ (z : ⊥ ⊎ ⊥). ⊎_elim (λ (n : ⊥). absurd n) (λ (n : ⊥). absurd n) z) (h.once k j s y x)))
         (λ y. some_at k s x j (omega arith) (let n : s ≢ j = λ e. y (subst (λ (z : ℕ). Holds o v k z) e x) in omega arith))
 

@@ -1,5 +1,5 @@
 -- Where the region of a reader's root stands for the writer after a step: it is the present one, or was replaced and isn't retired yet.
-use Rattle.std.proofs.Common.{◌≡◌, ℕ, ◌⊎◌, ⊎_elim, inl, inr, List}
+use Rattle.std.proofs.Common.{◌≡◌, ℕ, ⊎_elim, inl, inr, List}
 use Rattle.ck_run.specs.declared.account.Step.{Step}
 use Rattle.ck_htlaw.specs.Stages.{Target, empty, reuse, move, Insertion, Stage, idle, with_high, copying, retiring, retiring_at_end, after_rebuild}
 use Rattle.ck_htlaw.specs.Table.{Layout, Action, inserts, publishes, tidies, WriterState, filled, first, copy, second, MayWriterStep}

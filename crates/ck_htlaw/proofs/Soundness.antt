@@ -1,9 +1,7 @@
 -- What the writer is about to do is right of the words as they stand.
-use Rattle.std.proofs.Common.{◌≡◌, ◌≢◌, ℕ, zero, suc, ◌+◌, ◌-◌, ◌*◌, ◌/◌, ◌%◌, ◌^◌, ◌<◌, ◌≤◌, Bool, true, false, cond, nat_le, nat_lt, ◌==◌, eq-eqb, ne_eqb, List, length, get_or, refl, sym, ap, ◌∙◌, subst, arith}
+use Rattle.std.proofs.Common.{◌≡◌, ◌≢◌, ℕ, zero, suc, ◌+◌, ◌-◌, ◌*◌, ◌/◌, ◌%◌, ◌^◌, ◌<◌, ◌≤◌, Bool, true, false, cond, nat_le, nat_lt, ◌==◌, List, length, get_or, refl, sym, ap, ◌∙◌, subst, arith}
 use Rattle.std.proofs.lemmas.Bool.Decides.{nat_tests}
 use Rattle.std.specs.Prelude.{Option, Some, None}
-use mathlib.Core.Logic.{dite}
-use native.Mathlib.Decide.{ℕ_discrete}
 use Rattle.ck_run.specs.declared.account.Entry.{Entry}
 use Rattle.ck_run.specs.Range.{word_of}
 use Rattle.ck_slots.specs.Slots.{Order, SlotsView, Holds}
@@ -22,32 +20,18 @@ use Rattle.ck_htlaw.proofs.Words.{if_inside}
 use Rattle.ck_htlaw.proofs.Maps.{remaps}
 use Rattle.ck_htlaw.proofs.Parts.{parts_skip}
 use Rattle.ck_htlaw.proofs.RebuildSteps.{map_rest}
+use Rattle.ck_htplan.specs.Deciding.{next_full as planned_full}
 use Rattle.ck_htplan.proofs.Says.{Says, says}
+use Rattle.ck_htplan.proofs.Decided.{IsNext, next_is, next_none}
 use Rattle.ck_htlaw.proofs.Planning.{plans_empty, plans_reuse, plans_move}
 
 yes_le : (a b : ℕ) → nat_le a b ≡ true → a ≤ b
 yes_le a b h = grind (arith, nat_tests)
 
--- the first full slot
-record IsNext (f : ℕ → ℕ) (j i : ℕ) : Type 0 where
-  from : j ≤ i
-  full : f i ≡ 1
-  none : (s : ℕ) → j ≤ s → s < i → f s ≢ 1
-
-next_is : (f : ℕ → ℕ) (n j i : ℕ) → next_full f n j ≡ Some i → IsNext f j i × (i < n + j)
-next_is f zero j i e = absurd (let z : None ≡ Some i = e in cc)
-next_is f (suc n) j i e = dite (ℕ_discrete (f j) 1)
-    (λ (y : f j ≡ 1). let z : Some j ≡ Some i = sym (ap (λ (b : Bool). cond b (Some j) (next_full f n (suc j))) (eq-eqb (f j) 1 y)) ∙ e in
-    let same : j ≡ i = cc in (record { from = omega arith; full = ap f (sym same) ∙ y; none = λ s a b. absurd (omega arith) }, omega arith))
-    (λ (y : f j ≢ 1). let r = next_is f n (suc j) i (sym (ap (λ (b : Bool). cond b (Some j) (next_full f n (suc j))) (ne_eqb (f j) 1 y)) ∙ e) in let a = r.0.from in let low = r.1 in
-    (record { from = omega arith; full = r.0.full; none = λ s b c. dite (ℕ_discrete s j) (λ (z : s ≡ j). λ d. y (ap f (sym z) ∙ d)) (λ (z : s ≢ j). r.0.none s (omega arith) c) }, omega arith))
-
-next_none : (f : ℕ → ℕ) (n j : ℕ) → next_full f n j ≡ None → (s : ℕ) → j ≤ s → s < n + j → f s ≢ 1
-next_none f zero j e s a b = absurd (omega arith)
-next_none f (suc n) j e s a b = dite (ℕ_discrete (f j) 1)
-    (λ (y : f j ≡ 1). absurd (let z : Some j ≡ None = sym (ap (λ (b : Bool). cond b (Some j) (next_full f n (suc j))) (eq-eqb (f j) 1 y)) ∙ e in cc))
-    (λ (y : f j ≢ 1). dite (ℕ_discrete s j) (λ (z : s ≡ j). λ d. y (ap f (sym z) ∙ d))
-    (λ (z : s ≢ j). next_none f n (suc j) (sym (ap (λ (b : Bool). cond b (Some j) (next_full f n (suc j))) (ne_eqb (f j) 1 y)) ∙ e) s (omega arith) (omega arith)))
+-- The law and the plan look for the first full slot in the same way
+next_same : (f : ℕ → ℕ) (n j : ℕ) → next_full f n j ≡ planned_full f n j
+next_same f zero j = refl
+next_same f (suc n) j = ap (cond (f j == 1) (Some j)) (next_same f n (suc j))
 
 -- two lists of words with the same words of a region have the same slots
 view_agree : (l : Layout) (ws ws' : List ℕ) (root size : ℕ) → IsRegion l size root → ((i : ℕ) → IsOwn l i → get_or ws i 0 ≡ get_or ws' i 0) → view l ws' root ≡ view l ws root
@@ -189,13 +173,13 @@ module _ (l : Layout) (ws : List ℕ) (p : WriterState) (h : WriterInvariant l w
     pub to_copy_sound : (c : Opening) (r : Option ℕ) → next_full (slots_now l p).state (o.slots - j) j ≡ r → CopySound (to_copy l p c root j r)
     to_copy_sound c (Some s) e =
         let f = subst (λ (u : SlotsView). next_full u.state (o.slots - j) j ≡ Some s) now e in
-        let next = next_is v.state (o.slots - j) j s f in
+        let next = next_is v.state (o.slots - j) j s (sym (next_same v.state (o.slots - j) j) ∙ f) in
         let a = next.1 in let b = next.0.from in let low : s < o.slots = omega arith in
         copy_sound s (key_at l p s) (plan_of o' (view l p.words root) (key_at l p s)) next.0 low
         (subst (λ (u : SlotsView). Says o' v' (key_at l p s) (plan_of o' u (key_at l p s))) (sym now') (says o' new.region.ok v' (key_at l p s) (hid.way (key_at l p s)) hid.hole.0 hid.hole.1 hid.hole.2))
         (stood s low next.0.full)
     to_copy_sound c None e = if_copy (nat_le j o.slots) (when_copied l p c) no_action
-        (λ y. let le = yes_le j o.slots y in copied_sound c (le, λ s a b. next_none v.state (o.slots - j) j (subst (λ (u : SlotsView). next_full u.state (o.slots - j) j ≡ None) now e) s a (omega arith)))
+        (λ y. let le = yes_le j o.slots y in copied_sound c (le, λ s a b. next_none v.state (o.slots - j) j (sym (next_same v.state (o.slots - j) j) ∙ subst (λ (u : SlotsView). next_full u.state (o.slots - j) j ≡ None) now e) s a (omega arith)))
         (λ _. tt)
 
 -- at every stage

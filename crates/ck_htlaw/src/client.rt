@@ -63,8 +63,8 @@ impl Within<HtClient> for HtClient {
 // The logarithm of the slots at opening.
 const OPENING_LOG: u64 = 3;
 
-// How many counters the table has, one for each 32 words of its arena.
-fn counters(client: &HtClient) -> u64
+/// How many counters the table has, one for each 32 words of its arena.
+pub fn counters(client: &HtClient) -> u64
     requires small { table_words (counters_of client.now) ≤ 2 ^ 33 }
     ensures { result ≡ counters_of client.now }
 {

@@ -4,5 +4,5 @@
 mod client;
 mod laws;
 
-pub use client::HtClient;
+pub use client::{HtClient, counters};
 pub use laws::{Regions, reached_law, table_law};

@@ -9,7 +9,7 @@ use Rattle.ck_history.specs.declared.update.Reply.TheVariants.{Fresh, Was, Has, 
 use Rattle.ck_slots.specs.Slots.{Order, SlotsView, Holds}
 use Rattle.ck_slots.specs.Standing.{Pairs}
 use Rattle.ck_slots.specs.Changes.{IsUpdate}
-use Rattle.ck_slots.specs.Keeping.{HasRoom}
+use Rattle.ck_slots.specs.Keeping.{MayTakeKey}
 use Rattle.ck_slots.specs.Counting.{count, rebuilt_log}
 use Rattle.ck_htplan.specs.declared.cases.Plan.{Plan}
 use Rattle.ck_htplan.specs.declared.cases.Plan.TheVariants.{Empty, Reuse, Stand, Move}
@@ -107,9 +107,9 @@ value_of update = 0
 -- The decision on an update of the key k can be carried out, on slots that stand for the map m
 module _ (o : Order) (v : SlotsView) (m : Pairs) (k : ℕ) where
   abbrev pub IsDecided : Decision → Type 0
-  IsDecided (adds s) = HasRoom o v k s × (m k ≡ None)
+  IsDecided (adds s) = MayTakeKey o v k s × (m k ≡ None)
   IsDecided (replaces s) = Holds o v k s
-  IsDecided (moves to from) = HasRoom o v k to × Holds o v k from × (o.step k to < o.step k from)
+  IsDecided (moves to from) = MayTakeKey o v k to × Holds o v k from × (o.step k to < o.step k from)
   IsDecided (removes s) = Holds o v k s
   IsDecided stays = Unit {0}
   IsDecided (rebuilds c) = Unit {0}

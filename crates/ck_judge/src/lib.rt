@@ -11,6 +11,8 @@ mod places;
 mod replay;
 mod search;
 #[cfg(test)]
+mod small_tests;
+#[cfg(test)]
 mod tests;
 mod verdict;
 

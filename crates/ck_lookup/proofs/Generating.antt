@@ -23,7 +23,7 @@ use Rattle.ck_gen.specs.Summaries.{summary_of, summary_lines}
 use Rattle.ck_gen.proofs.Lawful.{said_numbered}
 use Rattle.ck_pool.specs.declared.map_results.MapResults.{MapResults}
 use Rattle.ck_pool.specs.Served.{lines_of, line_total}
-use Rattle.ck_pool.specs.Snapshots.{job_script, AreMapResults}
+use Rattle.ck_pool.specs.Results.{job_script, AreMapResults}
 use Rattle.ck_lookup.specs.Headline.{capacity}
 use Rattle.ck_lookup.specs.Making.{made_text}
 
@@ -153,15 +153,15 @@ module _ (seed count : ℕ) where
         whole : range_fault (numbered 1 (lines_of_updates seed count)) (numbered 1 (lines_of_queries seed count) ∷ []) ≡ None
         whole = rw (none_held (map said_of (numbered 1 (lines_of_queries seed count) ∷ [])) 1 us, waits, not_below count count (omega arith), none_waits (length (updates (said_of (numbered 1 (lines_of_updates seed count))))) 2 ks) refl
 
-    module _ (x : MapResults) (answered : AreMapResults (job_script ups asks) x) where
+    module _ (x : MapResults) (answered : AreMapResults capacity (job_script ups asks) x) where
       -- the first of the lists of answers is there
       answers_are : (lists : List (List (Option ℕ))) → AllLegal (length us) (answer_after nat_cmp capacity us) plain.files lists → lists ≡ map (answer_after nat_cmp capacity us (length us)) ks ∷ []
       answers_are [] legal = absurd legal
       answers_are (a ∷ []) legal = ap (λ b. b ∷ []) (answered_last (length us) (answer_after nat_cmp capacity us) 1 1 ks a legal.0.places legal.0.placed)
       answers_are (a ∷ b ∷ lists) legal = absurd legal.1
 
-      plainly : AreMapResults plain x
-      plainly = subst (λ s. AreMapResults s x) script_is answered
+      plainly : AreMapResults capacity plain x
+      plainly = subst (λ s. AreMapResults capacity s x) script_is answered
 
       lists_are : map (λ file. file.items) x.answers.items ≡ map (answer_after nat_cmp capacity us (length us)) ks ∷ []
       lists_are = answers_are (map (λ file. file.items) x.answers.items) plainly.legal

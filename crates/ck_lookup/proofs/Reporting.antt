@@ -19,7 +19,7 @@ use Rattle.ck_script.proofs.Saying.{Say-taken}
 use Rattle.ck_report.specs.declared.asked.Asked.{Asked}
 use Rattle.ck_report.specs.Text.{report_text}
 use Rattle.ck_pool.specs.declared.map_results.MapResults.{MapResults}
-use Rattle.ck_pool.specs.Snapshots.{job_script, AreMapResults}
+use Rattle.ck_pool.specs.Results.{job_script, AreMapResults}
 use Rattle.ck_lookup.specs.Headline.{capacity, IsReportOf, all_asked}
 use Rattle.ck_lookup.specs.Limits.{AreWithin}
 use Rattle.ck_report.specs.declared.put.PutError.{PutError}
@@ -27,7 +27,8 @@ use Rattle.ck_report.specs.declared.put.PutError.TheVariants.{Failed}
 use Rattle.ck_report.specs.declared.put.PutError.TheVariants as put
 use Rattle.ck_io.specs.Sink.{AppendsPrefix}
 use Rattle.ck_lookup.specs.Causes.{AreSaid}
-use Rattle.ck_lookup.specs.Running.{asked_of_files, MayBegin, IsTextOf, HasPut}
+use Rattle.ck_report.specs.Pairing.{asked_of_files}
+use Rattle.ck_lookup.specs.Running.{MayBegin, IsTextOf, HasPut}
 use Rattle.ck_lookup.proofs.Asking.{files_as}
 use Rattle.ck_lookup.proofs.Counting.{job_short}
 
@@ -66,7 +67,7 @@ pub map_long : {X Y : Type 0} (g : X → Y) (xs : List X) → length (map g xs) 
 map_long g [] = refl
 map_long g (x ∷ xs) = let h = map_long g xs in omega arith
 
-module _ (ups : List (Numbered (UpLine (Update ℕ)))) (asks : List (Vec (Numbered (AskLine ℕ)) Global)) (x : MapResults) (answered : AreMapResults (job_script ups asks) x) where
+module _ (ups : List (Numbered (UpLine (Update ℕ)))) (asks : List (Vec (Numbered (AskLine ℕ)) Global)) (x : MapResults) (answered : AreMapResults capacity (job_script ups asks) x) where
   pub answered_long : length asks ≡ length x.answers.items
   answered_long =
       let us = updates (said_of ups) in

@@ -44,6 +44,15 @@ module _ {X Y : Type 0} (f : X → Y) where
   map_push [] x = refl
   map_push (y ∷ xs) x = ap (λ ys. f y ∷ ys) (map_push xs x)
 
+-- the element at a place
+pub next_of : {X : Type 0} (xs : List X) (i : ℕ) → i < length xs → (x : X) × (slice_get xs i ≡ Some x) × (take (i + 1) xs ≡ take i xs ++ x ∷ [])
+next_of xs i lt = rw add-one (go xs i lt)
+  where
+    go : {X : Type 0} (xs : List X) (i : ℕ) → i < length xs → (x : X) × (slice_get xs i ≡ Some x) × (take (suc i) xs ≡ take i xs ++ x ∷ [])
+    go [] i lt = absurd (omega arith)
+    go (x ∷ xs) zero lt = (x, refl, refl)
+    go (x ∷ xs) (suc i) lt = let next = go xs i (omega arith) in (next.0, next.1, ap (λ ys. x ∷ ys) next.2)
+
 -- one more query file says its lines
 pub queries_push : (files : List (List ℕ)) (bytes : List ℕ) (asks : List (List (Numbered (AskLine ℕ)))) (said : List (Numbered (AskLine ℕ))) → QueriesSay IsKey decimal files asks → FileSays (IsQueryLine IsKey) (query_words decimal) bytes said → QueriesSay IsKey decimal (files ++ bytes ∷ []) (asks ++ said ∷ [])
 queries_push [] bytes [] said all here = (here, tt)

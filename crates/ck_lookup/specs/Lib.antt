@@ -6,3 +6,4 @@ pub mod Judging
 pub mod Running
 pub mod Fetching
 pub mod Outcomes
+pub mod FilesRead

@@ -33,18 +33,6 @@ use Rattle.ck_lookup.specs.Limits.{AreWithin}
 use Rattle.ck_lookup.specs.Judging.{verdict_text, IsBadReport, HasBadReport, HasBadScriptBeside}
 use Rattle.ck_lookup.specs.Causes.{IsFaultOf, IsLawful, IsBadScript, HasBadScript, IsReadFault, IsTooLarge, AreRead, AreSaid}
 
--- the queries among a file's lines, each with the next answer
-abbrev pub asked_lines : List (AskLine ℕ) → List (Option ℕ) → List (Asked ℕ)
-asked_lines [] answers = []
-asked_lines (Wait n ∷ lines) answers = asked_lines lines answers
-asked_lines (Ask key ∷ lines) [] = []
-asked_lines (Ask key ∷ lines) (answer ∷ answers) = record { key = key; found = answer } ∷ asked_lines lines answers
-
--- the same of each file
-abbrev pub asked_of_files : List (List (AskLine ℕ)) → List (List (Option ℕ)) → List (List (Asked ℕ))
-asked_of_files (lines ∷ files) (answers ∷ more) = asked_lines lines answers ∷ asked_of_files files more
-asked_of_files _ _ = []
-
 -- A job that a run may begin: there are 1 to 64 query files, the lines are within the limits, none is beyond what there is, and none is a `hold`
 pub record MayBegin (ups : List (Numbered (UpLine (Update ℕ)))) (asks : List (Vec (Numbered (AskLine ℕ)) Global)) : Type 0 where
   pub some_file : 1 ≤ length asks

@@ -1,7 +1,6 @@
 //! The whole of `lookup`: from the words of the command line and the bytes of the files to the bytes of the report.
 #![tactic(auto)]
 
-mod asked;
 mod fetch;
 mod files;
 mod judging;

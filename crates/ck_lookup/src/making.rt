@@ -9,7 +9,6 @@ use ck_history::{Key, Update};
 use ck_io::{OpenGate, Sink, put_all};
 use ck_pool::{Job, run_over_snap};
 use ck_script::{AskLine, Numbered, ScriptError, UpLine, read_queries, read_updates};
-use ck_snap::Snap;
 use std::alloc::{AllocError, Global};
 use std::sync::Wait;
 use std::thread::Threads;
@@ -60,7 +59,7 @@ pub fn run_make<R: Threads + Wait + Sync, K: Sink>(
 }
 
 // The job of the generated files.
-fn generated_job(alloc: Global, seed: u64, lines: u64) -> Result<Job<Snap>, AllocError>
+fn generated_job(alloc: Global, seed: u64, lines: u64) -> Result<Job<Update<Key>, Key>, AllocError>
     requires { lines ≤ 999999 }
     ensures updates { IfOk result (λ job. job.ups.items ≡ numbered 1 (lines_of_updates seed lines)) }
     ensures queries { IfOk result (λ job. map (λ file. file.items) job.asks.items ≡ numbered 1 (lines_of_queries seed lines) ∷ []) }

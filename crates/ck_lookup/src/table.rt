@@ -29,7 +29,7 @@ pub fn run_table<R: Threads + Wait + Sync, S: Shelf, K: Sink, G: Gate + Sync>(
     ensures shelf_lasting { NeverFall (S.faults shelf.old) (S.faults shelf.new) }
     ensures sink_lasting { K.faults sink.old ≤ K.faults sink.new }
 {
-    match job_of(alloc, updates, queries, shelf) {
+    match job_of(rt, alloc, workers, updates, queries, shelf) {
         Err(refusal) => refusal,
         Ok(job) => match put_job(rt, alloc, &job, workers, sink, gate) {
             Ok(()) => Outcome::Done,

@@ -187,6 +187,63 @@ fn refuses_with_the_cause(rt: HostRuntime) -> Result<(), Fail> {
     Ok(())
 }
 
+// Scripts that several tasks read, since the update file is large, and the outcome.
+const LARGE: &[(&[&str], Outcome)] = &[
+    (&["set 7 10\n", "get 7\n", "get 8\n"], Outcome::Done),
+    (
+        &["set 0 1\n", "get\n", "get 8\n"],
+        Outcome::BadScript {
+            file: 0,
+            line: 2,
+            why: Why::Key,
+        },
+    ),
+    (
+        &["set 7 10\n", "get 7\nget\n", "got 8\n"],
+        Outcome::BadScript {
+            file: 1,
+            line: 2,
+            why: Why::Shape,
+        },
+    ),
+    (
+        &["set 7 10\n", "get 7\n", "wait 2\n"],
+        Outcome::BadScript {
+            file: 2,
+            line: 1,
+            why: Why::Beyond,
+        },
+    ),
+];
+
+#[test]
+fn large_files_are_read_side_by_side(rt: HostRuntime) -> Result<(), Fail> {
+    let alloc = rt.alloc();
+    for (texts, expected) in LARGE {
+        let mut files = shelved(alloc, texts)?;
+        let mut updates = Vec::new(alloc);
+        for _ in 0..131_072 {
+            updates.push(b'#')?;
+        }
+        updates.push(b'\n')?;
+        updates.extend_from_slice(texts[0].as_bytes())?;
+        assert!(rt; !files.is_empty());
+        files[0] = (String::from_str(alloc, "u")?, updates);
+        let (outcome, taken) = ran(
+            &rt,
+            alloc,
+            &["table", "--workers", "2", "u", "q", "r"],
+            files,
+            Vec::new(alloc),
+            65536,
+            Vec::new(alloc),
+        )?;
+        assert_eq!(rt; outcome, *expected);
+        assert_eq!(rt; taken.is_empty(), *expected != Outcome::Done);
+    }
+    Ok(())
+}
+
 #[test]
 fn puts_nothing_for_words_that_are_not_of_the_form(rt: HostRuntime) -> Result<(), Fail> {
     let alloc = rt.alloc();

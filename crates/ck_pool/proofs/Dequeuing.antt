@@ -45,7 +45,7 @@ may_again size c d (Lost mine found) may t calls =
       few = omega (arith, le, most, calls);
       head = inr (found, inl (length ((state c).heads ++ mine ∷ []), last_in ((state c).heads ++ mine ∷ []) (state d).heads found t.heads), omega (arith, le, above, calls));
     }
-may_again size c d (Empty at) may t calls = tt
+may_again size c d (Empty at) may t calls = (c, at, t)
 
 -- a consumer that made no call
 pub may_first : (c : Token) → (state c).calls ≡ 0 → MayDequeue c

@@ -4,4 +4,5 @@ mod Files
 mod Dequeuing
 mod Opening
 mod Composing
+pub mod MapJobs
 mod Snapping

@@ -1,6 +1,5 @@
 -- A job over a snapshot dictionary whose passes are tied to its writer has legal answers.
 use Rattle.std.proofs.Common.{◌≡◌, ℕ, zero, suc, ◌+◌, ◌≤◌, List, [], ◌∷◌, ◌++◌, length, map, Option, Some, None, refl, sym, ap, subst, ◌∙◌, zero-add, arith}
-use Rattle.std.proofs.lemmas.List.{take_all}
 use Rattle.std.specs.Ordering.{nat_cmp}
 use Rattle.ck_history.specs.declared.event.WriterEvent.TheVariants.{Updated, Told}
 use Rattle.ck_history.specs.declared.log.Look.TheVariants.{Found, Absent}
@@ -22,7 +21,8 @@ use Rattle.ck_pool.specs.Places.{AreUnused, AllPlaced}
 use Rattle.ck_pool.specs.Served.{AreReady, AreInOrder, AreServed}
 use Rattle.ck_pool.specs.Snapshots.{snap_eye, AllPlacedIn}
 use Rattle.ck_pool.proofs.Running.{some_same}
-use Rattle.ck_pool.proofs.Composing.{HoldsKept, calls_ran, files_legal}
+use Rattle.ck_pool.proofs.Composing.{HoldsKept}
+use Rattle.ck_pool.proofs.MapJobs.{job_replies, job_pairs, job_legal}
 
 -- what a look-up found
 pub was_found : (v : ℕ) (o : Option ℕ) → Found v ≡ look_of o → o ≡ Some v
@@ -68,32 +68,25 @@ module _ (snap : Dictionary) (ups : List (Numbered (UpLine (Update ℕ)))) (done
   abbrev asked : List (Update ℕ)
   asked = script.updates (said_of ups)
 
-  made : asked ≡ updates (log_of_events done)
-  made = (calls_ran ups done rs ran).0 ∙ updates_logged done
-
   pub snap_replies : AreReplies (log_of_events done) → rs ≡ replies nat_cmp most_pairs asked
   snap_replies map_replies =
-      (calls_ran ups done rs ran).1 ∙ (replies_logged done ∙ (map_replies ∙ ap (λ (u : List (Update ℕ)). replies nat_cmp most_pairs u) (sym made)))
+      job_replies most_pairs ups done rs ran (replies_logged done ∙ (map_replies ∙ ap (λ (us : List (Update ℕ)). replies nat_cmp most_pairs us) (sym (updates_logged done))))
 
   pub snap_pairs : map_after (log_of_events done) ≡ after nat_cmp most_pairs asked (length asked)
-  snap_pairs =
-      ap (λ (u : List (Update ℕ)). after_from nat_cmp most_pairs [] u) (sym made)
-      ∙ ap (λ (u : List (Update ℕ)). after_from nat_cmp most_pairs [] u) (sym (take_all (length asked) asked (omega arith)))
+  snap_pairs = ap (λ (us : List (Update ℕ)). after_from nat_cmp most_pairs [] us) (sym (updates_logged done)) ∙ job_pairs most_pairs ups done rs ran
 
   pub snap_legal : (es : List PassView) (asks : List (List (Numbered (AskLine ℕ)))) (backs : List PassView) (bss : List (List (Option ℕ)))
       → holds 0 (said_of ups) ≡ [] → AreUnused (snap_eye snap) es → AreServed (snap_eye snap) es asks backs bss → AllPlacedIn (log_of_events done) backs
       → AllLegal (length asked) (answer_after nat_cmp most_pairs asked) (bounded_files (length asked) (holds 0 (said_of ups)) 1 (map said_of asks)) bss
   snap_legal es asks backs bss no_hold unused served tied =
       let log = log_of_events done in
-      let hs = holds 0 (said_of ups) in
-      let kept : HoldsKept (places_from backs) hs = subst (λ hs. HoldsKept (places_from backs) hs) (sym no_hold) tt in
       let placed = passes_placed snap log (places_from backs) 0 backs (λ j. let z : 0 + j ≡ j = omega arith in ap (places_from backs) z) tied in
-      let legal = files_legal (snap_eye snap) (length log) (answer_after nat_cmp most_pairs (updates log)) (places_from backs) hs kept 0 es asks backs bss unused served placed in
-      let first : AllLegal (length log) (answer_after nat_cmp most_pairs (updates log)) (bounded_files (length log) hs 1 (map said_of asks)) bss =
-      subst (λ (k : ℕ). AllLegal (length log) (answer_after nat_cmp most_pairs (updates log)) (bounded_files (length log) hs k (map said_of asks)) bss) (zero-add 1) legal in
-      let counted : AllLegal (length (updates log)) (answer_after nat_cmp most_pairs (updates log)) (bounded_files (length (updates log)) hs 1 (map said_of asks)) bss =
-      subst (λ (n : ℕ). AllLegal n (answer_after nat_cmp most_pairs (updates log)) (bounded_files n hs 1 (map said_of asks)) bss) (sym (updates_long log)) first in
-      subst (λ (u : List (Update ℕ)). AllLegal (length u) (answer_after nat_cmp most_pairs u) (bounded_files (length u) hs 1 (map said_of asks)) bss) (sym made) counted
+      let counted : AllPlaced (snap_eye snap) (length (updates log)) (answer_after nat_cmp most_pairs (updates log)) (places_from backs) 0 backs =
+      subst (λ (n : ℕ). AllPlaced (snap_eye snap) n (answer_after nat_cmp most_pairs (updates log)) (places_from backs) 0 backs) (sym (updates_long log)) placed in
+      let all : AllPlaced (snap_eye snap) (length (updates_in done)) (answer_after nat_cmp most_pairs (updates_in done)) (places_from backs) 0 backs =
+      subst (λ (us : List (Update ℕ)). AllPlaced (snap_eye snap) (length us) (answer_after nat_cmp most_pairs us) (places_from backs) 0 backs) (sym (updates_logged done)) counted in
+      let kept : HoldsKept (places_from backs) (holds 0 (said_of ups)) = subst (λ hs. HoldsKept (places_from backs) hs) (sym no_hold) tt in
+      job_legal most_pairs ups done rs ran (snap_eye snap) (places_from backs) es asks backs bss kept unused served all
 
 -- one more pass that is tied
 tied_at : (log : Log) (ps : List PassView) (p : PassView) → ArePlacedIn log p.done p.places → AllPlacedIn log ps → AllPlacedIn log (ps ++ p ∷ [])

@@ -5,4 +5,5 @@ pub mod Served
 pub mod Desk
 pub mod Working
 pub mod Places
+pub mod Results
 pub mod Snapshots

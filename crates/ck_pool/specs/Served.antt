@@ -1,5 +1,5 @@
 -- What `serve` asks of a job, and what it tells of it.
-use Rattle.std.specs.Prelude.{◌≡◌, ℕ, ◌+◌, ◌^◌, ◌<◌, List, [], ◌∷◌, ◌++◌, length, Some, Vec, slice_get}
+use Rattle.std.specs.Prelude.{◌≡◌, ℕ, ◌+◌, ◌<◌, List, [], ◌∷◌, ◌++◌, length, Some, Vec, slice_get}
 use Rattle.std.specs.declared.alloc.Global.{Global}
 use Rattle.ck_history.specs.declared.event.WriterEvent.{WriterEvent}
 use Rattle.ck_history.specs.declared.event.ReaderEvent.{ReaderEvent}

@@ -1,4 +1,4 @@
--- A job over a snapshot dictionary.
+-- What the pool sees of a snapshot dictionary.
 use Rattle.std.specs.Prelude.{◌≡◌, ℕ, List, [], ◌∷◌, length, map, Option, Vec}
 use Rattle.std.specs.Ordering.{nat_cmp}
 use Rattle.std.specs.declared.alloc.Global.{Global}
@@ -27,13 +27,3 @@ snap_eye snap = record { ready = λ p. IsPassOf snap p; number = λ p. p.number;
 abbrev pub AllPlacedIn : Log → List PassView → Type 0
 AllPlacedIn log [] = Unit {0}
 AllPlacedIn log (p ∷ ps) = ArePlacedIn log p.done p.places × AllPlacedIn log ps
-
--- what the lines of a job ask for
-abbrev pub job_script : {K : Type 0} → List (Numbered (UpLine (Update K))) → List (Vec (Numbered (AskLine K)) Global) → Script K
-job_script ups asks = script_of (said_of ups) (map said_of (map (λ file. file.items) asks))
-
--- The replies are those of the map of one thread, the pairs are those of that map after all updates, and the answers of each file are legal
-pub record AreMapResults (script : Script ℕ) (x : MapResults) : Type 0 where
-  pub replied : x.replies.items ≡ replies nat_cmp most_pairs script.updates
-  pub legal : AllLegal (length script.updates) (answer_after nat_cmp most_pairs script.updates) script.files (map (λ file. file.items) x.answers.items)
-  pub paired : x.pairs.items ≡ after nat_cmp most_pairs script.updates (length script.updates)

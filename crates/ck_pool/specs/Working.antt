@@ -11,6 +11,7 @@ use Rattle.ck_run.specs.Tokens.{Table, table}
 use Rattle.ck_ring.specs.declared.answers.Take.{Take}
 use Rattle.ck_ring.specs.declared.answers.Take.TheVariants.{Item, Lost, Empty}
 use Rattle.ck_ring.specs.State.{Token, state}
+use Rattle.ck_ring.specs.Calls.{FindsRingEmpty}
 use Rattle.ck_pool.specs.Limits.{most_job_lines, most_query_files, call_bound, start_call_bound}
 use Rattle.ck_pool.specs.declared.query_run.QueryRun.{QueryRun}
 use Rattle.ck_pool.specs.declared.worker.Worker.{Worker}
@@ -120,9 +121,13 @@ pub record MayDequeue (c : Token) : Type 0 where
   pub few : (state c).calls ≤ 2 ^ 40 - 7
   pub head : ((state c).calls ≡ 0) ⊎ ((head : ℕ) × WorkerKnowsHead c head × ((state c).calls ≤ head))
 
+-- the last call of the consumer found the ring empty
+abbrev pub FoundRingEmpty : Token → Type 0
+FoundRingEmpty c = (before : Token) × (at : ℕ) × FindsRingEmpty before at c
+
 -- it may ask the ring again unless the ring was empty
 abbrev pub MayDequeueAgain : Take → Token → Type 0
-MayDequeueAgain (Empty at) c = Unit {0}
+MayDequeueAgain (Empty at) c = FoundRingEmpty c
 MayDequeueAgain (Item item) c = MayDequeue c
 MayDequeueAgain (Lost mine found) c = MayDequeue c
 

@@ -2,14 +2,17 @@
 ghost use Rattle.std.specs.Prelude.{◌≡◌, ◌<◌, ◌≤◌, ◌^◌, [], length, vec_len, map, IfOk, OnOk, All, None};
 ghost use Rattle.ck_script.specs.Script.{said_of, holds};
 ghost use Rattle.ck_script.specs.Checks.{range_fault};
+ghost use Rattle.ck_snap.specs.Log.{most_pairs};
 ghost use Rattle.ck_snap.specs.Tokens.{IsWriterOf, IsPassOf, AreFreshSnapPasses, fresh_writer, log};
 ghost use Rattle.ck_pool.specs.Limits.{most_job_lines, most_query_files, most_workers, call_bound};
 ghost use Rattle.ck_pool.specs.Served.{line_total};
-ghost use Rattle.ck_pool.specs.Snapshots.{AllPlacedIn, job_script, AreMapResults};
+ghost use Rattle.ck_pool.specs.Results.{job_script, AreMapResults};
+ghost use Rattle.ck_pool.specs.Snapshots.{AllPlacedIn};
 
 use crate::job::{Job, Served};
 use crate::map_results::MapResults;
 use crate::serving::serve;
+use ck_history::{Key, Update};
 use ck_io::Gate;
 use ck_snap::{Snap, SnapPass, SnapWriter};
 use std::alloc::{AllocError, Global};
@@ -44,7 +47,7 @@ fn serve_and_tie<G: Gate + Sync, R: Threads + Wait + Sync>(
     snap: &Snap,
     hand: &mut SnapWriter,
     passes: Vec<SnapPass>,
-    job: &Job<Snap>,
+    job: &Job<Update<Key>, Key>,
     workers: u64,
     gate: &G,
 ) -> Result<MapResults, AllocError>
@@ -56,7 +59,7 @@ fn serve_and_tie<G: Gate + Sync, R: Threads + Wait + Sync>(
     requires ranges { range_fault job.now.ups.items (map (λ file. file.items) job.now.asks.items) ≡ None }
     requires no_hold { holds 0 (said_of job.now.ups.items) ≡ [] }
     ensures hand { IsWriterOf snap.now hand.new }
-    ensures answered { IfOk result (AreMapResults (job_script job.now.ups.items job.now.asks.items)) }
+    ensures answered { IfOk result (AreMapResults most_pairs (job_script job.now.ups.items job.now.asks.items)) }
 {
     let served = serve(rt, alloc, snap, hand, passes, job, workers, gate)?;
     let Served {
@@ -81,7 +84,7 @@ fn serve_and_tie<G: Gate + Sync, R: Threads + Wait + Sync>(
 pub fn run_over_snap<G: Gate + Sync, R: Threads + Wait + Sync>(
     rt: &R,
     alloc: Global,
-    job: &Job<Snap>,
+    job: &Job<Update<Key>, Key>,
     workers: u64,
     gate: &G,
 ) -> Result<MapResults, AllocError>
@@ -90,7 +93,7 @@ pub fn run_over_snap<G: Gate + Sync, R: Threads + Wait + Sync>(
     requires lines { line_total job.now.ups.items job.now.asks.items ≤ most_job_lines }
     requires ranges { range_fault job.now.ups.items (map (λ file. file.items) job.now.asks.items) ≡ None }
     requires no_hold { holds 0 (said_of job.now.ups.items) ≡ [] }
-    ensures { IfOk result (AreMapResults (job_script job.now.ups.items job.now.asks.items)) }
+    ensures { IfOk result (AreMapResults most_pairs (job_script job.now.ups.items job.now.asks.items)) }
 {
     let (snap, mut hand, passes) = Snap::new(rt, alloc, job.asks.len() as u64)?;
     let answered = serve_and_tie(rt, alloc, &snap, &mut hand, passes, job, workers, gate);

@@ -107,7 +107,7 @@ fn run_tasks<D: Dict, G: Gate + Sync, R: Threads + Wait + Sync>(
     context: &Context<D, G, R>,
     hand: &mut D::Hand,
     eyes: Vec<D::Eye>,
-    job: &Job<D>,
+    job: &Job<D::Call, D::Ask>,
     ring: &Ring,
     consumers: Vec<Consumer>,
 ) -> Result<Served<D>, AllocError>
@@ -148,7 +148,7 @@ pub fn serve<D: Dict, G: Gate + Sync, R: Threads + Wait + Sync>(
     dict: &D,
     hand: &mut D::Hand,
     eyes: Vec<D::Eye>,
-    job: &Job<D>,
+    job: &Job<D::Call, D::Ask>,
     workers: u64,
     gate: &G,
 ) -> Result<Served<D>, AllocError>

@@ -221,10 +221,7 @@ impl<W: Wait + Sync> Dict for TestDict<W> {
 }
 
 // A job of one `set` line, and of one query file of a `get` line, with a `wait` line before it or not.
-fn small_job<D: Dict<Call = Update<Key>, Ask = Key>>(
-    alloc: Global,
-    waits: bool,
-) -> Result<Job<D>, AllocError>
+fn small_job(alloc: Global, waits: bool) -> Result<Job<Update<Key>, Key>, AllocError>
     ensures files { IfOk result (λ job. length job.asks.items ≡ 1) }
     ensures no_hold { IfOk result (λ job. holds 0 (said_of job.ups.items) ≡ []) }
     ensures lines { IfOk result (λ job. line_total job.ups.items job.asks.items ≤ most_job_lines) }
@@ -253,7 +250,7 @@ fn small_job<D: Dict<Call = Update<Key>, Ask = Key>>(
 }
 
 // A job whose `set` line stands after a `hold` for the query of the second file. The query of the first file waits for that update.
-fn crossed_job<D: Dict<Call = Update<Key>, Ask = Key>>(alloc: Global) -> Result<Job<D>, AllocError>
+fn crossed_job(alloc: Global) -> Result<Job<Update<Key>, Key>, AllocError>
     ensures files { IfOk result (λ job. length job.asks.items ≡ 2) }
     ensures lines { IfOk result (λ job. line_total job.ups.items job.asks.items ≤ most_job_lines) }
     ensures ranges { IfOk result (λ job. range_fault job.ups.items (map (λ file. file.items) job.asks.items) ≡ None) }

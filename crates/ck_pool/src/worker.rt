@@ -1,9 +1,9 @@
 //! What a worker does: it takes files by the numbers that come through the ring, and runs each to its end.
-ghost use Rattle.std.specs.Prelude.{◌≡◌, ◌+◌, ◌<◌, ◌≤◌, ◌^◌, ℕ, length, vec_len, slice_get, [], true, IfOk, OnOk, None, Some};
+ghost use Rattle.std.specs.Prelude.{◌≡◌, ◌+◌, ◌<◌, ◌≤◌, ◌^◌, ℕ, length, vec_len, slice_get, [], true, false, IfOk, OnOk, None, Some};
 ghost use Rattle.ck_run.specs.Tokens.{table};
 ghost use Rattle.ck_pool.specs.declared.query_run.QueryRun.{QueryRun};
 ghost use Rattle.ck_pool.specs.Desk.{IsClerkOf};
-ghost use Rattle.ck_pool.specs.Working.{AreOnDesk, AreQueryRuns, AreEnded, HasRuns, runs_of, IsWorked, IsWorker, MayDequeue, MayDequeueAgain};
+ghost use Rattle.ck_pool.specs.Working.{AreOnDesk, AreQueryRuns, AreEnded, HasRuns, runs_of, IsWorked, IsWorker, MayDequeue, MayDequeueAgain, FoundRingEmpty};
 
 use crate::context::Context;
 use crate::desk::{Clerk, Desk};
@@ -58,6 +58,7 @@ fn take_one<D: Dict, G: Gate, R: Wait>(
     ensures clerk { IsClerkOf desk.now clerk.new × (clerk.new.known.parts ≡ clerk.old.known.parts) }
     ensures table { table consumer.new ≡ ring.now }
     ensures may { IfOk result (λ more. more ≡ true → MayDequeue consumer.new) }
+    ensures empty { IfOk result (λ more. more ≡ false → FoundRingEmpty consumer.new) }
     ensures each { OnOk result (AreQueryRuns (D.eyes context.now.dict.now) desk.now.eyes asks.now runs.new.items) }
     ensures all { OnOk result (HasRuns clerk.new runs.new.items) }
 {
@@ -81,20 +82,21 @@ fn take_all<D: Dict, G: Gate, R: Wait>(
     desk: &Desk<D::Eye>,
     ring: &Ring,
     clerk: &mut Clerk<D::Eye>,
-    mut consumer: Consumer,
+    consumer: &mut Consumer,
     asks: &[Vec<Numbered<AskLine<D::Ask>>>],
     runs: &mut Vec<QueryRun<D::Eye, D::Answer>>,
 ) -> Result<(), AllocError>
     requires clerk { IsClerkOf desk.now clerk.old × (clerk.old.known.took ≡ []) }
-    requires ring { (table consumer ≡ ring.now) × MayDequeue consumer }
+    requires ring { (table consumer.old ≡ ring.now) × MayDequeue consumer.old }
     requires files { AreOnDesk (D.eyes context.now.dict.now) desk.now.eyes asks.now }
     requires none { runs.old.items ≡ [] }
     ensures clerk { IsClerkOf desk.now clerk.new × (clerk.new.known.parts ≡ clerk.old.known.parts) }
+    ensures empty { OnOk result (FoundRingEmpty consumer.new) }
     ensures each { OnOk result (AreQueryRuns (D.eyes context.now.dict.now) desk.now.eyes asks.now runs.new.items) }
     ensures all { OnOk result (HasRuns clerk.new runs.new.items) }
 {
     for _ in context.rt.forever() {
-        if !take_one(context, desk, ring, clerk, &mut consumer, asks, runs)? {
+        if !take_one(context, desk, ring, clerk, consumer, asks, runs)? {
             return Ok(());
         }
     }
@@ -179,10 +181,18 @@ pub fn work<D: Dict, G: Gate, R: Wait>(
 {
     let Worker {
         mut clerk,
-        consumer,
+        mut consumer,
     } = worker;
     let mut runs = Vec::new(context.alloc);
-    take_all(context, desk, ring, &mut clerk, consumer, asks, &mut runs)?;
+    take_all(
+        context,
+        desk,
+        ring,
+        &mut clerk,
+        &mut consumer,
+        asks,
+        &mut runs,
+    )?;
     let runs = finish_all(context, desk, asks, runs)?;
     Ok(Worked { clerk, runs })
 }

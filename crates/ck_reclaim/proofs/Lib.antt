@@ -2,5 +2,4 @@ pub mod Along
 mod Filtered
 mod Places
 mod Linking
-mod Sections
-mod Reclaiming
+pub mod Reclaiming

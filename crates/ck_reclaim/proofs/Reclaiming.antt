@@ -18,7 +18,7 @@ use Rattle.ck_epoch.specs.Client.{program, IsGuarded}
 use Rattle.ck_reclaim.specs.Pieces.{Pieces, AreApart, WasLinked, IsPendingSince, LinkedOrPending}
 use Rattle.ck_reclaim.specs.Reclaim.{IsDomainRun, RetiresWhatItUnlinks, IsReusableIn, IsApartFromRetired, ReclaimsPieces}
 use Rattle.ck_reclaim.proofs.Linking.{linked_or_pending}
-use Rattle.ck_reclaim.proofs.Sections.{still_open}
+use Rattle.ck_epoch.proofs.OpenSections.{still_open}
 
 module _ {C : Type 0} (s : Pieces C) (law : Reclamation C) where
   as_epochs : (origin : Origin C) (run : Run) → IsDomainRun s origin run → IsRun (follows_of epochs) origin run

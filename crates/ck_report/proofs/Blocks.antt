@@ -1,5 +1,5 @@
 -- Lines that are printed in blocks.
-use Rattle.std.proofs.Common.{◌≡◌, ℕ, zero, suc, ◌+◌, ◌-◌, ◌*◌, ◌<◌, ◌≤◌, List, [], ◌∷◌, ◌++◌, length, get_or, take, drop, Vec, Result, Ok, Err, IfOk, refl, ap, arith, sym, ◌∙◌, subst, append_assoc, append-nil, length-drop, suc-mul, zero-mul, add-zero, add-one}
+use Rattle.std.proofs.Common.{◌≡◌, ℕ, zero, suc, ◌+◌, ◌*◌, ◌<◌, ◌≤◌, List, [], ◌∷◌, ◌++◌, length, get_or, take, drop, Vec, Result, Ok, Err, IfOk, refl, ap, arith, sym, ◌∙◌, subst, append_assoc, append-nil, length-drop, suc-mul, zero-mul, add-zero, add-one}
 use Rattle.std.specs.Prelude.{if◌then◌else◌, is_ok, OnOk}
 use Rattle.std.specs.declared.alloc.AllocError.{AllocError}
 use Rattle.std.specs.declared.alloc.Global.{Global}

@@ -7,3 +7,4 @@ pub mod Faults
 pub mod FirstLine
 pub mod Streaming
 mod Blocks
+pub mod Answering

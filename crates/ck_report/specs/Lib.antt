@@ -4,3 +4,4 @@ pub mod Lines
 pub mod Streaming
 pub mod Numbered
 pub mod Tails
+pub mod Pairing

@@ -7,6 +7,7 @@ mod gather;
 mod line;
 mod lines;
 mod map_report;
+mod pairing;
 mod place;
 mod print;
 mod put;

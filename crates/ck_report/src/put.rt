@@ -5,14 +5,16 @@ ghost use Rattle.ck_io.specs.Sink.{appended, AppendsPrefix};
 ghost use Rattle.ck_report.specs.declared.put.PutError.TheVariants.{Failed, Memory};
 ghost use Rattle.ck_report.specs.Text.{report_text, reply_lines, answer_lines, file_lines, pair_lines};
 ghost use Rattle.ck_report.specs.Numbered.{numbered};
+ghost use Rattle.ck_report.specs.Pairing.{asked_lines, asked_of_files};
+ghost use Rattle.ck_script.specs.Script.{said_of};
 ghost use Rattle.ck_report.specs.Streaming.{IsStreamed, IsPutCause};
 
-use crate::asked::Asked;
 use crate::lines::{Answers, LinePrinter, Pairs, Replies};
+use crate::pairing::pair_block;
 use crate::tasks::Tasks;
 use ck_history::Reply;
 use ck_io::{Sink, SinkFailed, put_all};
-use ck_script::KeyWord;
+use ck_script::{AskLine, KeyWord, Numbered};
 use std::alloc::{AllocError, Global};
 use std::thread::Threads;
 
@@ -52,7 +54,7 @@ const FULL: usize = 2 * PIECE;
 /// bytes in a table's report.
 const ROOM: usize = FULL + 64 * 128;
 
-/// Puts a report: the replies, the answers of each query file, and the pairs at the end. It offers to each put all that is
+/// Puts a report: the replies, the answers to the queries of each query file, and the pairs at the end. It offers to each put all that is
 /// left, or the next 65,536 bytes where more is left. Where it fails, the sink took a prefix of the report. Up to `tasks`
 /// tasks print the lines of a part that has many; what is put doesn't hang on how many.
 pub fn put_report<R: Threads + Sync, S: Sink, K: KeyWord + Sync>(
@@ -61,11 +63,13 @@ pub fn put_report<R: Threads + Sync, S: Sink, K: KeyWord + Sync>(
     tasks: u8,
     sink: &mut S,
     replies: &[Reply],
-    answers: &[Vec<Asked<K>>],
+    asks: &[Vec<Numbered<AskLine<K>>>],
+    answers: &[Vec<Option<u64>>],
     pairs: &[(K, u64)],
 ) -> Result<(), PutError>
-    ensures all { OnOk result (S.taken sink.new ≡ appended (S.taken sink.old) (report_text K.spelling replies.now (map (λ file. file.items) answers.now) pairs.now)) }
-    ensures prefix { OnErr result (AppendsPrefix (S.taken sink.old) (S.taken sink.new) (report_text K.spelling replies.now (map (λ file. file.items) answers.now) pairs.now)) }
+    requires { length asks.now ≡ length answers.now }
+    ensures all { OnOk result (S.taken sink.new ≡ appended (S.taken sink.old) (report_text K.spelling replies.now (asked_of_files (map said_of (map (λ file. file.items) asks.now)) (map (λ file. file.items) answers.now)) pairs.now)) }
+    ensures prefix { OnErr result (AppendsPrefix (S.taken sink.old) (S.taken sink.new) (report_text K.spelling replies.now (asked_of_files (map said_of (map (λ file. file.items) asks.now)) (map (λ file. file.items) answers.now)) pairs.now)) }
     ensures cause { IfErr result (λ error. IsPutCause error (S.faults sink.old) (S.faults sink.new)) }
     ensures lasting { S.faults sink.old ≤ S.faults sink.new }
 {
@@ -76,7 +80,7 @@ pub fn put_report<R: Threads + Sync, S: Sink, K: KeyWord + Sync>(
         count: tasks,
     };
     put_replies(&tasks, sink, &mut buffer, replies)?;
-    put_files(&tasks, sink, &mut buffer, answers)?;
+    put_files(&tasks, sink, &mut buffer, asks, answers)?;
     put_pairs(&tasks, sink, &mut buffer, pairs)?;
     put_end(sink, &mut buffer)
 }
@@ -153,35 +157,51 @@ fn put_files<R: Threads + Sync, S: Sink, K: KeyWord + Sync>(
     tasks: &Tasks<R>,
     sink: &mut S,
     buffer: &mut Vec<u8>,
-    files: &[Vec<Asked<K>>],
+    asks: &[Vec<Numbered<AskLine<K>>>],
+    answers: &[Vec<Option<u64>>],
 ) -> Result<(), PutError>
-    ensures ok { OnOk result (IsStreamed (S.taken sink.old) (S.taken sink.new) (buffer.old.items ++ file_lines K.spelling 1 (map (λ file. file.items) files.now)) buffer.new.items) }
-    ensures err { OnErr result (AppendsPrefix (S.taken sink.old) (S.taken sink.new) (buffer.old.items ++ file_lines K.spelling 1 (map (λ file. file.items) files.now))) }
+    requires { length asks.now ≡ length answers.now }
+    ensures ok { OnOk result (IsStreamed (S.taken sink.old) (S.taken sink.new) (buffer.old.items ++ file_lines K.spelling 1 (asked_of_files (map said_of (map (λ file. file.items) asks.now)) (map (λ file. file.items) answers.now))) buffer.new.items) }
+    ensures err { OnErr result (AppendsPrefix (S.taken sink.old) (S.taken sink.new) (buffer.old.items ++ file_lines K.spelling 1 (asked_of_files (map said_of (map (λ file. file.items) asks.now)) (map (λ file. file.items) answers.now)))) }
     ensures cause { IfErr result (λ error. IsPutCause error (S.faults sink.old) (S.faults sink.new)) }
     ensures lasting { S.faults sink.old ≤ S.faults sink.new }
 {
-    let mut f: u64 = 0;
-    for answers in files {
-        f += 1;
-        put_answers(tasks, sink, buffer, f, answers)?;
+    for i in 0..asks.len() {
+        put_answers(tasks, sink, buffer, i as u64 + 1, &asks[i], &answers[i])?;
     }
     Ok(())
 }
 
-// The lines of the answers of one file.
+// The lines of the answers of one file, put round by round. What was asked is put beside its answer for one round alone, so
+// that no second list of all keys is made.
 fn put_answers<R: Threads + Sync, S: Sink, K: KeyWord + Sync>(
     tasks: &Tasks<R>,
     sink: &mut S,
     buffer: &mut Vec<u8>,
     f: u64,
-    answers: &[Asked<K>],
+    lines: &[Numbered<AskLine<K>>],
+    answers: &[Option<u64>],
 ) -> Result<(), PutError>
-    ensures ok { OnOk result (IsStreamed (S.taken sink.old) (S.taken sink.new) (buffer.old.items ++ answer_lines K.spelling f 1 answers.now) buffer.new.items) }
-    ensures err { OnErr result (AppendsPrefix (S.taken sink.old) (S.taken sink.new) (buffer.old.items ++ answer_lines K.spelling f 1 answers.now)) }
+    ensures ok { OnOk result (IsStreamed (S.taken sink.old) (S.taken sink.new) (buffer.old.items ++ answer_lines K.spelling f 1 (asked_lines (said_of lines.now) answers.now)) buffer.new.items) }
+    ensures err { OnErr result (AppendsPrefix (S.taken sink.old) (S.taken sink.new) (buffer.old.items ++ answer_lines K.spelling f 1 (asked_lines (said_of lines.now) answers.now))) }
     ensures cause { IfErr result (λ error. IsPutCause error (S.faults sink.old) (S.faults sink.new)) }
     ensures lasting { S.faults sink.old ≤ S.faults sink.new }
 {
-    put_lines(tasks, sink, buffer, &Answers { file: f }, answers)
+    let mut block = Vec::new(tasks.alloc);
+    let mut rest = lines;
+    let mut left = answers;
+    let mut before: u64 = 0;
+    while !rest.is_empty() {
+        block.clear();
+        let (now, later) = rest.split_at(tasks.round(rest.len()));
+        let given = pair_block(&mut block, now, left)?;
+        tasks.print_lines(buffer, &Answers { file: f }, before, &block)?;
+        put_full(sink, buffer)?;
+        before += block.len() as u64;
+        rest = later;
+        left = left.split_at(given).1;
+    }
+    Ok(())
 }
 
 // The lines of the pairs.

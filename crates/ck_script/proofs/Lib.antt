@@ -7,3 +7,5 @@ pub mod Meaning
 pub mod Shorts
 pub mod Prefixes
 mod Verbs
+mod Columns
+mod Keeping

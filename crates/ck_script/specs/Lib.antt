@@ -7,3 +7,5 @@ pub mod Checks
 pub mod Fronts
 pub mod Unique
 pub mod Shorts
+pub mod Columns
+pub mod Compact

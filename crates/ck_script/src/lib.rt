@@ -5,16 +5,21 @@
 mod arguments;
 mod check;
 mod circle;
+mod compact;
 mod fault;
 mod key_word;
 mod line;
+mod lines;
 mod read;
+mod rows;
 mod script_line;
 
 pub use check::{RangeFault, check_ranges};
 pub use circle::check_circles;
+pub use compact::{CompactCall, CompactKey, CompactLine};
 pub use fault::{ScriptError, ScriptFault, Why};
 pub use key_word::KeyWord;
+pub use lines::Lines;
 pub use line::{AskLine, Numbered, UpLine};
 pub use read::{read_queries, read_updates, scan_queries, scan_updates};
 

@@ -1,9 +1,9 @@
 //! The calls of signals. Each is one step, and none needs a section.
 ghost use Rattle.std.specs.Prelude.{◌≡◌, ℕ, ◌+◌, ◌<◌, ◌≤◌, ◌^◌, [], ◌∷◌, length, MatchResult, IfOk};
 ghost use Rattle.ck_run.specs.Tokens.{table, adding, did};
-ghost use Rattle.ck_epoch.specs.State.{depth, records_of, state};
+ghost use Rattle.ck_epoch.specs.State.{depth, records_of};
 ghost use Rattle.ck_epoch.specs.Ends.{IsDomainToken};
-ghost use Rattle.ck_epoch.specs.Calls.{rec_of};
+ghost use Rattle.ck_epoch.specs.Calls.{rec_of, SameItemsAndEpoch};
 ghost use Rattle.ck_signal.specs.Words.{marks, reaches, notes, asks, mark as marking, reached as reaching, note as noting, answered as asking};
 ghost use Rattle.ck_signal.specs.Signals.{readers, signals};
 ghost use Rattle.ck_signal.specs.Told.{applied_word_of, answered_word_of, writer_log, pass_answers, HasSeen, HasBeenTold};
@@ -18,7 +18,7 @@ pub fn mark<C: Client, F>(domain: &Domain<Signals<C>>, writer: &mut Writer<Signa
     requires table { table writer.old.token ≡ domain.now }
     requires tally { writer.old.tally ≡ length (writer_log C.meaning writer.old.token) }
     ensures step { writer.new ≡ record writer.old { token = adding writer.old.token (marks (applied_word_of C.meaning domain.now.origin) (length (writer_log C.meaning writer.old.token)) ∷ []) } }
-    ensures same { ((state writer.new.token).pending ≡ (state writer.old.token).pending) × ((state writer.new.token).dispatched ≡ (state writer.old.token).dispatched) × ((state writer.new.token).epoch ≡ (state writer.old.token).epoch) }
+    ensures same { SameItemsAndEpoch writer.old.token writer.new.token }
     ensures part { IsDomainToken (signals C.meaning) writer.new.token }
 {
     let updates = writer.tally();
@@ -84,7 +84,7 @@ fn load_answered<C: Client, F, O: Opens>(
     requires reader { reader < readers domain.now.origin }
     requires name { O.opens ≡ asking ∷ reader ∷ [] }
     ensures step { writer.new ≡ record writer.old { token = adding writer.old.token (asks (answered_word_of C.meaning domain.now.origin reader) reader result ∷ []) } }
-    ensures same { ((state writer.new.token).pending ≡ (state writer.old.token).pending) × ((state writer.new.token).dispatched ≡ (state writer.old.token).dispatched) × ((state writer.new.token).epoch ≡ (state writer.old.token).epoch) }
+    ensures same { SameItemsAndEpoch writer.old.token writer.new.token }
     ensures part { IsDomainToken (signals C.meaning) writer.new.token }
 {
     domain.ask::<O, F>(writer, answered_word(domain.client(), reader))
@@ -102,7 +102,7 @@ pub fn answered<C: Client, F>(
     requires reader { reader < readers domain.now.origin }
     ensures step { writer.new ≡ record writer.old { token = adding writer.old.token (asks (answered_word_of C.meaning domain.now.origin reader) reader result ∷ []) } }
     ensures places { HasBeenTold C.meaning writer.new.token reader result (did writer.old.token) }
-    ensures same { ((state writer.new.token).pending ≡ (state writer.old.token).pending) × ((state writer.new.token).dispatched ≡ (state writer.old.token).dispatched) × ((state writer.new.token).epoch ≡ (state writer.old.token).epoch) }
+    ensures same { SameItemsAndEpoch writer.old.token writer.new.token }
     ensures part { IsDomainToken (signals C.meaning) writer.new.token }
 {
     load_answered::<C, F, Brand>(domain, writer, reader)

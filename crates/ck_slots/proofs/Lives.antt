@@ -33,8 +33,9 @@ tell_apart x y n e = by (nat_lt x y) refl
 pub nat_exact : (j k : ℕ) → nat_cmp j k ≡ Equal → j ≡ k
 nat_exact j k e = dite (ℕ_discrete j k) (λ (same : j ≡ k). same) (λ (n : j ≢ k). absurd (tell_apart j k n e))
 
+-- without the pair of a key, a map has one pair less
 module _ (k : ℕ) where
-  removed_length : (x : ℕ) (m : Map ℕ) → find nat_cmp m k ≡ Some x → length (remove_entry (is_at (nat_cmp k)) m) + 1 ≡ length m
+  pub removed_length : (x : ℕ) (m : Map ℕ) → find nat_cmp m k ≡ Some x → length (remove_entry (is_at (nat_cmp k)) m) + 1 ≡ length m
   removed_length x [] e = absurd (let z : None ≡ Some x = e in cc)
   removed_length x (a ∷ m) e = by (is_at (nat_cmp k) a.0) refl (λ r. removed_length x m r)
     where
@@ -42,7 +43,8 @@ module _ (k : ℕ) where
       by true i more = omega arith
       by false i more = let r = more (sym (ap (λ (b : Bool). cond b (Some a.1) (find nat_cmp m k)) i) ∙ e) in omega arith
 
-empty_length : (m : Map ℕ) → ((k : ℕ) → find nat_cmp m k ≡ None) → length m ≡ 0
+-- a map that has no key has no pair
+pub empty_length : (m : Map ℕ) → ((k : ℕ) → find nat_cmp m k ≡ None) → length m ≡ 0
 empty_length [] none = refl
 empty_length (a ∷ m) none = absurd (let z : Some a.1 ≡ None = sym (ap (λ (b : Bool). cond b (Some a.1) (find nat_cmp m a.0)) (ap is_eq (tied_itself nat_cmp_total a.0))) ∙ none a.0 in cc)
 

@@ -70,26 +70,20 @@ module _ (o : Order) (ok : IsOrder o) (v : SlotsView) (h : History) (q : ℕ) (g
       none_some : (x : ℕ) → None ≡ Some x → ⊥
       none_some x z = cc
 
+  -- the slot from which a key was moved away
+  moved : (key to from : ℕ) → Holds o v key to × Holds o v key from × (o.step key to < o.step key from) → HadBefore v h q key from → (i s : ℕ) → o.step k s ≡ i → (key ≡ k) × (from ≡ s) → ((t : ℕ) → Holds o v k t → ((key ≡ k) × (from ≡ t)) ⊎ (h q k ≡ Some (v.value t)))
+      → (HeldWithin h r q k None ⊎ (((t : ℕ) → Holds o v k t → i ≤ o.step k t) ⊎ (r < q))) → HeldWithin h r q k (Some (v.value s))
+  moved key to from c b i s e old present a =
+      let first = subst (λ (j : ℕ). Holds o v j to) old.0 c.0 in let before = subst (λ (j : ℕ). o.step j to < o.step j from) old.0 c.2 in
+      let here : h q k ≡ Some (v.value to) = ⊎_elim (λ (z : (key ≡ k) × (from ≡ to)). let y = ap (o.step k) z.1 in absurd (omega arith)) (λ (z : h q k ≡ Some (v.value to)). z) (present to first) in
+      subst (λ (t : ℕ). HeldWithin h r q k (Some (v.value t))) old.1 (twice to from first before (subst (λ (j : ℕ). HadBefore v h q j from) old.0 b) here i (ap (o.step k) old.1 ∙ e) a)
+
   old_since : (g' : Moving) → AreCopies o v (copies_in g') → KnowsMove v h q g' → (i s : ℕ) → o.step k s ≡ i → IsOld (copies_in g') k s → ((t : ℕ) → Holds o v k t → IsOld (copies_in g') k t ⊎ (h q k ≡ Some (v.value t)))
       → IsUnpassed o v h q g' r k i → HeldWithin h r q k (Some (v.value s))
   old_since (half key to from) c b i s e old present a = moved key to from c b i s e old present
       (⊎_elim (λ (z : HeldWithin h r q k None). inl z) (λ (z : ((t : ℕ) → Holds o v k t → i ≤ o.step k t) ⊎ ((key ≡ k) × (i ≤ o.step k from) × (r < q))). inr (⊎_elim (λ (d : (t : ℕ) → Holds o v k t → i ≤ o.step k t). inl d) (λ (d : (key ≡ k) × (i ≤ o.step k from) × (r < q)). inr d.2) z)) a)
-    where
-      moved : (key to from : ℕ) → Holds o v key to × Holds o v key from × (o.step key to < o.step key from) → HadBefore v h q key from → (i s : ℕ) → o.step k s ≡ i → (key ≡ k) × (from ≡ s) → ((t : ℕ) → Holds o v k t → ((key ≡ k) × (from ≡ t)) ⊎ (h q k ≡ Some (v.value t)))
-          → (HeldWithin h r q k None ⊎ (((t : ℕ) → Holds o v k t → i ≤ o.step k t) ⊎ (r < q))) → HeldWithin h r q k (Some (v.value s))
-      moved key to from c b i s e old present a =
-          let first = subst (λ (j : ℕ). Holds o v j to) old.0 c.0 in let before = subst (λ (j : ℕ). o.step j to < o.step j from) old.0 c.2 in
-          let here : h q k ≡ Some (v.value to) = ⊎_elim (λ (z : (key ≡ k) × (from ≡ to)). let y = ap (o.step k) z.1 in absurd (omega arith)) (λ (z : h q k ≡ Some (v.value to)). z) (present to first) in
-          subst (λ (t : ℕ). HeldWithin h r q k (Some (v.value t))) old.1 (twice to from first before (subst (λ (j : ℕ). HadBefore v h q j from) old.0 b) here i (ap (o.step k) old.1 ∙ e) a)
   old_since (raised key to from) c b i s e old present a = moved key to from c b i s e old present
       (⊎_elim (λ (z : HeldWithin h r q k None). inl z) (λ (z : ((t : ℕ) → Holds o v k t → i ≤ o.step k t) ⊎ ⊥). inr (⊎_elim (λ (d : (t : ℕ) → Holds o v k t → i ≤ o.step k t). inl d) (λ (d : ⊥). absurd d) z)) a)
-    where
-      moved : (key to from : ℕ) → Holds o v key to × Holds o v key from × (o.step key to < o.step key from) → HadBefore v h q key from → (i s : ℕ) → o.step k s ≡ i → (key ≡ k) × (from ≡ s) → ((t : ℕ) → Holds o v k t → ((key ≡ k) × (from ≡ t)) ⊎ (h q k ≡ Some (v.value t)))
-          → (HeldWithin h r q k None ⊎ (((t : ℕ) → Holds o v k t → i ≤ o.step k t) ⊎ (r < q))) → HeldWithin h r q k (Some (v.value s))
-      moved key to from c b i s e old present a =
-          let first = subst (λ (j : ℕ). Holds o v j to) old.0 c.0 in let before = subst (λ (j : ℕ). o.step j to < o.step j from) old.0 c.2 in
-          let here : h q k ≡ Some (v.value to) = ⊎_elim (λ (z : (key ≡ k) × (from ≡ to)). let y = ap (o.step k) z.1 in absurd (omega arith)) (λ (z : h q k ≡ Some (v.value to)). z) (present to first) in
-          subst (λ (t : ℕ). HeldWithin h r q k (Some (v.value t))) old.1 (twice to from first before (subst (λ (j : ℕ). HadBefore v h q j from) old.0 b) here i (ap (o.step k) old.1 ∙ e) a)
   old_since unmoved c b i s e old present a = absurd old
 
   -- what stands at the slot that the look comes to has a value that the key had

@@ -2,7 +2,7 @@
 use Rattle.std.proofs.Common.{◌≡◌, ℕ, suc, ◌<◌, ◌≤◌, refl, sym, ap, ◌∙◌, arith}
 use Rattle.std.specs.Prelude.{Some, None}
 use Rattle.ck_slots.specs.Slots.{Order, IsOrder, SlotsView, Holds}
-use Rattle.ck_slots.specs.Keeping.{IsSameBut, HasRoom}
+use Rattle.ck_slots.specs.Keeping.{IsSameBut, MayTakeKey}
 use Rattle.ck_slots.specs.Looks.{History, GrowsBy, Moving, unmoved, half, raised, StandAt, Steps}
 use Rattle.ck_slots.proofs.Stores.{in_map, same_map, removes, ends, replaces}
 use Rattle.ck_slots.proofs.Fills.{fills_fresh, fills_move}
@@ -10,7 +10,7 @@ use Rattle.ck_slots.proofs.Keeping.{keeps_fewer, keeps_fresh, keeps_move, keeps_
 
 module _ (o : Order) (ok : IsOrder o) (v v' : SlotsView) (h h' : History) (q : ℕ) (st : StandAt o v h q unmoved) where
   -- a slot takes a key
-  module _ (k to : ℕ) (room : HasRoom o v k to) (but : IsSameBut to v v') (new : Holds o v' k to) (m : GrowsBy h h' q k (Some (v'.value to))) where
+  module _ (k to : ℕ) (room : MayTakeKey o v k to) (but : IsSameBut to v v') (new : Holds o v' k to) (m : GrowsBy h h' q k (Some (v'.value to))) where
     pub fresh_step : h q k ≡ None → Steps o v v' h h' q (suc q) unmoved unmoved
     fresh_step absent = record {
       stand = record { held = fills_fresh o ok v v' (h q) (h' (suc q)) k to st.held room but new m.update absent; knows = tt };

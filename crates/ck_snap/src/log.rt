@@ -185,7 +185,7 @@ impl LogWord {
         pen
     }
 
-    /// BeginsLog the log. Only who has made the word can, so the first exchange does.
+    /// Begins the log. Only who has made the word can, so the first exchange does.
     fn begin<R: Wait>(&self, rt: &R, seen: &Seen<Link, u64, Grows>) -> LogEnd
         requires { seen.now.book ≡ self.now }
         ensures { result ≡ record { book = self.now; log = [] } }

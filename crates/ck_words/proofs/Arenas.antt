@@ -1,12 +1,12 @@
 -- What taking and giving change of an arena.
-use Rattle.std.proofs.Common.{◌≡◌, ℕ, ◌+◌, ◌-◌, ◌*◌, ◌/◌, ◌%◌, ◌^◌, ◌<◌, ◌≤◌, List, length, slice_index, arith, sym, ap, subst, ◌∙◌, true≢false}
+use Rattle.std.proofs.Common.{◌≡◌, ℕ, ◌+◌, ◌-◌, ◌*◌, ◌/◌, ◌%◌, ◌^◌, ◌<◌, ◌≤◌, List, length, slice_index, inl, inr, le_refl, pow-add, arith, sym, ap, subst, ◌∙◌, true≢false}
 use Rattle.std.proofs.lemmas.Nat.{pow_pos}
 use Rattle.std.proofs.Math.Nat.{pow-le-pow_right, mul-le-mul_right, div-eq_of_eq-mul_right}
 use Rattle.std.specs.FinSet as set
 use Rattle.ck_words.specs.Tree.{IsConsistent, NoneOutFrom, TakesOut, PutsBack}
 use Rattle.ck_words.specs.Buddies.{Piece, piece, piece_cmp, Arena, with_pieces_out, IsPieceOut, IsAlignedIn, IsFree, ArePiecesApart, HasWordOut, free_words, arena_of, IsArenaOf}
 use Rattle.ck_words.proofs.Pieces.{IsRangeOf, IsNodeOut, row_size, out_node, out_more, out_less}
-use Rattle.ck_words.proofs.Words.{placed, in_tree, even, apart, free_of_whole}
+use Rattle.ck_words.proofs.Words.{placed, in_tree, even, apart, free_of_whole, lt_or_ge}
 use Rattle.ck_words.proofs.Full.{none_free}
 use Rattle.ck_words.proofs.Counting.{free_words-insert, free_words-remove, free_words-le}
 
@@ -176,6 +176,25 @@ none_where_empty a log most empty has_out =
     let length : 2 ^ log ≤ 2 ^ a.log_len = pow-le-pow_right {n = 2} (omega arith) most in
     let has = has_out a.first (0, (omega arith, omega arith)) in
     true≢false (sym has.1.1.1.0 ∙ ap (λ s. set.contains s has.1.1.0) empty ∙ set.contains-empty piece_cmp has.1.1.0)
+
+none_at_once : (n x : ℕ) → 0 < x → n - n < x
+none_at_once n x some = omega arith
+
+-- where nothing is out, the root is free whole
+pub whole_where_empty : (first log_len log_min free : ℕ) (h : List ℕ) → IsArenaOf first log_len log_min free h → (arena_of first log_len log_min h).out ≡ set.empty → slice_index h 1 ≡ 0
+unfolding arena_of
+whole_where_empty first log_len log_min free h is empty =
+    elim (lt_or_ge 0 (slice_index h 1)) [
+      | inl some ↦ absurd (none_where_empty (arena_of first log_len log_min h) log_len (le_refl log_len) empty (none_where_full first log_len log_min free h is log_len is.shortest (le_refl log_len) (none_at_once log_len (slice_index h 1) some)))
+      | inr none ↦ omega arith
+    ]
+
+-- and the first node of a row begins where the arena does
+pub leftmost_place : (first log_len log at node : ℕ) → log ≤ log_len → node ≡ 2 ^ (log_len - log) → at + 2 ^ log_len ≡ first + node * 2 ^ log → at ≡ first
+leftmost_place first log_len log at node less is place =
+    let whole : 2 ^ (log_len - log) * 2 ^ log ≡ 2 ^ log_len = sym (pow-add 2 (log_len - log) log) ∙ ap (λ n. 2 ^ n) (let z : log_len - log + log ≡ log_len = omega arith in z) in
+    let here : node * 2 ^ log ≡ 2 ^ log_len = ap (λ n. n * 2 ^ log) is ∙ whole in
+    omega arith
 
 -- a piece of which no word is out isn't out
 pub not_out_of_free : (a : Arena) (p : Piece) → IsFree a p → ¬ IsPieceOut a p

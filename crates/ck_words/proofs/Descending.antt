@@ -1,5 +1,5 @@
 -- The way from the root down to a node that is free whole.
-use Rattle.std.proofs.Common.{◌≡◌, ◌≢◌, ℕ, zero, suc, ◌+◌, ◌-◌, ◌*◌, ◌/◌, ◌%◌, ◌^◌, ◌<◌, ◌≤◌, List, length, slice_index, arith, sym, ap, subst, ◌∙◌}
+use Rattle.std.proofs.Common.{◌≡◌, ◌≢◌, ℕ, zero, suc, ◌+◌, ◌-◌, ◌*◌, ◌/◌, ◌%◌, ◌^◌, ◌<◌, ◌≤◌, List, length, slice_index, arith, sym, ap, subst, ◌∙◌, refl}
 use Rattle.std.proofs.lemmas.Bool.Decides.{nat_tests}
 use Rattle.std.proofs.lemmas.Nat.{pow_pos}
 use Rattle.std.proofs.Math.Nat.{pow-suc, mul-le-mul_right, le-mul_of_pos_right, pow-le-pow_right, mod-eq_of_lt}
@@ -14,6 +14,8 @@ pub record IsDescending (h : List ℕ) (depth node spare : ℕ) : Type 0 where
   pub to : (node + 1) * 2 ^ spare ≤ 2 * 2 ^ depth
   pub fits : slice_index h node ≤ spare
   pub path : NoneOutFrom h node
+  -- where the whole arena is free, it has gone nowhere
+  pub stays : slice_index h 1 ≡ 0 → (node ≡ 1) × (spare ≡ depth)
 
 pub joined_fits : (left right spare : ℕ) → spare < 24 → joined_halvings left right ≢ 0 → joined_halvings left right ≤ spare + 1 → spare < left → right ≤ spare
 joined_fits left right spare small cut fits over = grind (arith, nat_tests)
@@ -34,6 +36,7 @@ descending-init h depth deep fits =
       to = omega arith;
       fits = fits;
       path = path;
+      stays = λ _. (refl, refl);
     }
   where
     path : NoneOutFrom h 1
@@ -60,8 +63,8 @@ module _ (h : List ℕ) (depth node spare : ℕ) (was : IsDescending h depth nod
       let whole : (node + 1) * (2 ^ (spare - 1) * 2) ≤ 2 * 2 ^ depth = rw half at to in
       omega (arith, wide, whole, tall)
 
-  pub descending-step : (next : ℕ) → next / 2 ≡ node → slice_index h next ≤ spare - 1 → depth ≤ 24 → IsDescending h depth next (spare - 1)
-  descending-step next half_is fits deep =
+  pub descending-step : (next : ℕ) → next / 2 ≡ node → slice_index h node ≢ 0 → slice_index h next ≤ spare - 1 → depth ≤ 24 → IsDescending h depth next (spare - 1)
+  descending-step next half_is cut fits deep =
       let positive = was.positive in
       let spare_le = was.spare_le in
       let from : 2 ^ depth ≤ node * (2 ^ (spare - 1) * 2) = rw halved at was.from in
@@ -75,6 +78,7 @@ module _ (h : List ℕ) (depth node spare : ℕ) (was : IsDescending h depth nod
         to = omega arith;
         fits = fits;
         path = path_next h next (λ e. omega (arith, e, fits, spare_le, deep)) (subst (NoneOutFrom h) (sym half_is) was.path);
+        stays = λ whole. absurd (cut (ap (slice_index h) (was.stays whole).0 ∙ whole));
       }
 
 doubled_node : (node p : ℕ) → (2 * node) * p ≡ node * (p * 2)
@@ -108,3 +112,14 @@ descending-end h depth node spare was consistent even deep tall whole =
     let small : node * 2 ^ spare < 2 ^ 64 = omega arith in
     let room : (node + 1) * 2 ^ spare ≤ length h = omega arith in
     rw (mod-eq_of_lt small) (first_below h spare node consistent even was.positive room whole was.path)
+
+-- and where the whole arena is free, it is the first of that row
+pub descending-stays : (h : List ℕ) (depth node spare : ℕ) → IsDescending h depth node spare → depth ≤ 24 → slice_index h 1 ≡ 0 → node * 2 ^ spare % 2 ^ 64 ≡ 2 ^ depth
+descending-stays h depth node spare was deep whole =
+    let at = was.stays whole in
+    let bound : 2 ^ depth ≤ 2 ^ 24 = pow-le-pow_right {n = 2} (omega arith) deep in
+    let small : 1 * 2 ^ depth < 2 ^ 64 = omega arith in
+    (λ i. at.0 i * 2 ^ at.1 i % 2 ^ 64) ∙ (mod-eq_of_lt small ∙ one (2 ^ depth))
+  where
+    one : (n : ℕ) → 1 * n ≡ n
+    one n = omega arith

@@ -22,23 +22,22 @@ module _ (first log_len log_min : ℕ) where
   abbrev range_of : Piece → ℕ → Type 0
   range_of p node = IsRangeOf first log_len log_min p node
 
+  -- where a piece with halves lies, by the length of a half
+  in_halves : (p : Piece) (node log : ℕ) → p.log ≡ suc log → range_of p node
+      → (p.at + 2 ^ log_len ≡ first + node * (2 ^ log * 2)) × (2 ^ log_len ≤ node * (2 ^ log * 2)) × ((node + 1) * (2 ^ log * 2) ≤ 2 * 2 ^ log_len)
+  in_halves p node log is range =
+      let length : 2 ^ p.log ≡ 2 ^ log * 2 = ap (λ n. 2 ^ n) is ∙ pow-suc 2 log in
+      (rw length at range.place, rw length at range.from, rw length at range.to)
+
   -- the two halves of a piece
   left_half : (p : Piece) (node log : ℕ) → p.log ≡ suc log → log_min ≤ log → range_of p node → range_of (piece p.at log) (2 * node)
   left_half p node log is least range =
-      let length : 2 ^ p.log ≡ 2 ^ log * 2 = ap (λ n. 2 ^ n) is ∙ pow-suc 2 log in
-      let place : p.at + 2 ^ log_len ≡ first + node * (2 ^ log * 2) = rw length at range.place in
-      let from : 2 ^ log_len ≤ node * (2 ^ log * 2) = rw length at range.from in
-      let to : (node + 1) * (2 ^ log * 2) ≤ 2 * 2 ^ log_len = rw length at range.to in
-      let most = range.most in
+      let lies = in_halves p node log is range in let most = range.most in
       record { least = least; most = omega arith; place = omega arith; from = omega arith; to = omega arith }
 
   right_half : (p : Piece) (node log : ℕ) → p.log ≡ suc log → log_min ≤ log → range_of p node → range_of (piece (p.at + 2 ^ log) log) (2 * node + 1)
   right_half p node log is least range =
-      let length : 2 ^ p.log ≡ 2 ^ log * 2 = ap (λ n. 2 ^ n) is ∙ pow-suc 2 log in
-      let place : p.at + 2 ^ log_len ≡ first + node * (2 ^ log * 2) = rw length at range.place in
-      let from : 2 ^ log_len ≤ node * (2 ^ log * 2) = rw length at range.from in
-      let to : (node + 1) * (2 ^ log * 2) ≤ 2 * 2 ^ log_len = rw length at range.to in
-      let most = range.most in
+      let lies = in_halves p node log is range in let most = range.most in
       record { least = least; most = omega arith; place = omega arith; from = omega arith; to = omega arith }
 
   -- the piece that a piece is a half of

@@ -99,6 +99,7 @@ impl Buddies {
         ensures none { IsNone result ↔ ((at : ℕ) → IsAlignedIn self.old (piece at log) → HasWordOut self.old (piece at log)) }
         ensures unchanged { IfNone result (self.new ≡ self.old) }
         ensures whole { self.old.out ≡ set.empty → IsSome result }
+        ensures first { self.old.out ≡ set.empty → IfSome result (λ at. at ≡ self.old.first) }
         ensures apart { ArePiecesApart self.new }
     {
         let depth = self.log_len - log;

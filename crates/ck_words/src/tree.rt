@@ -73,6 +73,7 @@ pub fn descend(halvings: &[u8], depth: u64) -> usize
     ensures to { result < 2 * 2 ^ depth }
     ensures whole { slice_index halvings.now result ≡ 0 }
     ensures path { NoneOutFrom halvings.now result }
+    ensures leftmost { slice_index halvings.now 1 ≡ 0 → result ≡ 2 ^ depth }
 {
     let mut node = 1;
     let mut spare = depth;

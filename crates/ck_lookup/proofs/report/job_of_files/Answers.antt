@@ -2,7 +2,7 @@ use Rattle.ck_lookup.proofs.Scripting.{first_mapped}
 use Rattle.ck_lookup.proofs.report.job_of_files.Goals as goal
 
 pub returns-clause-said : goal.returns-clause-said
-returns-clause-said c update_file query_files is =
+returns-clause-said g c update_file query_files is =
     let scripts = c.in_ok-ups-in-len1-up in
     let same = first_mapped (λ file. file.items) c.args.files.now c.update_file-item.result update_file query_files is c.update_file-item.is in
     record {

@@ -1,4 +1,4 @@
-use Rattle.std.proofs.Common.{◌≡◌, ◌∙◌, ◌<◌, ◌^◌, ◌++◌, length, map, sym, ap, subst, arith}
+use Rattle.std.proofs.Common.{◌≡◌, ◌∙◌, ◌<◌, ◌++◌, length, map, sym, ap, subst, arith}
 use Rattle.ck_snap.specs.Places.{Writing, log_of_events}
 use Rattle.ck_snap.specs.Tokens.{WriterView, IsPassOf}
 use Rattle.ck_pool.specs.Limits.{call_bound}

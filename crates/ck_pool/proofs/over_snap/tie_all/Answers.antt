@@ -1,4 +1,4 @@
-use Rattle.std.proofs.Common.{◌≡◌, ◌∙◌, ◌+◌, ◌<◌, ◌^◌, ap, subst, vec_len, arith}
+use Rattle.std.proofs.Common.{◌≡◌, ◌∙◌, ◌+◌, ◌<◌, ap, subst, vec_len, arith}
 use Rattle.ck_snap.specs.Tokens.{WriterView, IsPassOf, log}
 use Rattle.ck_snap.specs.Places.{Writing, log_of_events, ArePlacedIn}
 use Rattle.ck_pool.specs.Limits.{call_bound}

@@ -1,4 +1,4 @@
-use Rattle.std.proofs.Common.{◌≡◌, ◌+◌, ◌<◌, ◌≤◌, ◌^◌, All, vec_len}
+use Rattle.std.proofs.Common.{◌≡◌, ◌+◌, ◌<◌, ◌≤◌, All, vec_len}
 use Rattle.ck_snap.specs.Tokens.{IsWriterOf, IsPassOf, log}
 use Rattle.ck_pool.specs.Limits.{most_query_files, call_bound}
 use Rattle.ck_pool.specs.Snapshots.{AllPlacedIn}

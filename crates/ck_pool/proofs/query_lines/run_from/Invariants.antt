@@ -1,4 +1,4 @@
-use Rattle.std.proofs.Common.{◌≡◌, ◌+◌, ◌≤◌, ◌*◌, ◌^◌, ◌++◌, List, take}
+use Rattle.std.proofs.Common.{◌≡◌, ◌+◌, ◌≤◌, ◌*◌, ◌++◌, List, take}
 use Rattle.ck_history.specs.declared.event.ReaderEvent.{ReaderEvent}
 use Rattle.ck_pool.specs.Limits.{start_call_bound}
 use Rattle.ck_pool.specs.Runs.{QueriesRan}

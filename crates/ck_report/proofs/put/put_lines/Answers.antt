@@ -1,5 +1,4 @@
-use Rattle.std.proofs.Common.{◌≡◌, ◌+◌, ◌++◌, arith}
-use Rattle.ck_report.specs.Numbered.{numbered}
+use Rattle.std.proofs.Common.{arith}
 use Rattle.ck_report.proofs.Blocks.{block_printed}
 use Rattle.ck_report.proofs.Streaming.{streamed_as, streamed_more, streamed_failing, streamed_stopped, err_always}
 use Rattle.ck_report.proofs.put.put_lines.Goals as goal

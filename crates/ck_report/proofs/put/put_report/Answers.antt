@@ -1,8 +1,11 @@
 use Rattle.std.proofs.Common.{[], ◌∷◌, codes}
 use Rattle.ck_text.specs.Words.{line}
 use Rattle.ck_report.specs.Text.{pair_lines}
-use Rattle.ck_report.proofs.Streaming.{err_always, on_err_map, on_ok_map, files_failing, pairs_failing, end_failing, end_put}
+use Rattle.ck_report.proofs.Streaming.{streamed_first, streamed_stopped, err_always, on_err_map, on_ok_map, files_failing, pairs_failing, end_failing, end_put}
 use Rattle.ck_report.proofs.put.put_report.Goals as goal
+
+pub returns-in_err-buffer-clause-prefix : goal.returns-in_err-buffer-clause-prefix
+returns-in_err-buffer-clause-prefix g c = err_always _ _ (streamed_stopped _ _ _ _ (streamed_first (g.S.Sink.taken c.args.sink.now) _))
 
 pub returns-in_err-put_files-clause-prefix : goal.returns-in_err-put_files-clause-prefix
 returns-in_err-put_files-clause-prefix g c =

@@ -1,4 +1,3 @@
-use Rattle.std.proofs.Common.{◌++◌}
 use Rattle.ck_report.proofs.Blocks.{texts_more}
 use Rattle.ck_report.proofs.tasks.append_texts.Goals as goal
 

@@ -1,5 +1,5 @@
 use Rattle.std.proofs.Common.{arith, ◌≡◌, slice_index}
-use Rattle.ck_words.proofs.Descending.{descending-init, descending-inner, descending-step, descending-end}
+use Rattle.ck_words.proofs.Descending.{descending-init, descending-inner, descending-step, descending-end, descending-stays}
 use Rattle.ck_words.proofs.tree.descend.Goals as goal
 use Rattle.ck_words.proofs.tree.descend.Goals.{Left-loop-spare, then-loop-spare-test+else-halvings-node-gt0, else-loop-spare-test}
 
@@ -12,7 +12,7 @@ fitting_half-node-requires-clause-inner c =
 
 pub loop-spare-preserved : goal.loop-spare-preserved
 loop-spare-preserved c =
-    descending-step _ _ _ _ c.loop-spare.invariant c.loop-spare-test.true c.requires.tall _ c.fitting_half-node.ensures.half c.fitting_half-node.ensures.fits c.requires.deep
+    descending-step _ _ _ _ c.loop-spare.invariant c.loop-spare-test.true c.requires.tall _ c.fitting_half-node.ensures.half (λ e. omega (arith, e, c.if-halvings-node-gt0.true)) c.fitting_half-node.ensures.fits c.requires.deep
 
 node_whole : (c : Left-loop-spare) → slice_index c.args.halvings.now c.loop-spare.node ≡ 0
 node_whole c =
@@ -29,3 +29,6 @@ returns-clause-whole c =
 pub returns-clause-path : goal.returns-clause-path
 returns-clause-path c =
     (descending-end _ _ _ _ c.loop-spare.invariant c.requires.consistent c.requires.even c.requires.deep c.requires.tall (node_whole c)).1
+
+pub returns-clause-leftmost : goal.returns-clause-leftmost
+returns-clause-leftmost c = descending-stays _ _ _ _ c.loop-spare.invariant c.requires.deep

@@ -9,7 +9,7 @@ use Rattle.ck_epoch.specs.Ends.{Writer}
 use Rattle.ck_epoch.proofs.Emptying.{are_dispatched}
 use Rattle.ck_epoch.proofs.Polled.{config_is, were_retired, row_length}
 use Rattle.ck_epoch.specs.Rounds.{Rounds, HaveEnded}
-use Rattle.ck_epoch.proofs.TwoRounds.{is_free, counts_more, writer_after, have_ended}
+use Rattle.ck_epoch.proofs.TwoRounds.{is_free, both_after, ended_after}
 use Rattle.ck_epoch.proofs.domain.Domain.barrier.Goals as goal
 
 pub two_rounds-requires-clause-table : goal.two_rounds-requires-clause-table
@@ -36,17 +36,11 @@ dispatch_all-requires-clause-items g c list low =
 
 pub invariant_of-writer : goal.invariant_of-writer
 invariant_of-writer g c =
-    let t = c.writer.inside.token in
-    let u = c.two_rounds.new.token in
-    let e = c.two_rounds.ensures in
-    let w = c.writer.invariant.0 in
-    let same = ap number (e.steps barrier refl).4 in
-    let is = e.state true refl in
-    let retires = g.C.Client.meaning.retires (origin t).config.client in (
-      writer_after g.C.Client.meaning t c.writer.inside.backlog w u true (state u).steps e.part e.table same is c.dispatch_all.new.self c.dispatch_all.ensures.lists
-          (All-nil (λ (r : Retired). retires r.item ≡ true)),
-      counts_more g.C.Client.meaning t c.writer.inside.backlog w u true (state u).steps e.part e.table same is c.writer.inside.calls c.writer.invariant.1,
-    )
+    let meaning = g.C.Client.meaning in
+    let t = c.writer.inside.token in let b = c.writer.inside.backlog in let w = c.writer.invariant.0 in
+    let u = c.two_rounds.new.token in let e = c.two_rounds.ensures in
+    let retires = meaning.retires (origin t).config.client in
+    both_after meaning t b w u true (state u).steps e.part e.table (ap number (e.steps barrier refl).4) (e.state true refl) c.dispatch_all.new.self c.dispatch_all.ensures.lists (All-nil (λ (r : Retired). retires r.item ≡ true)) c.writer.inside.calls c.writer.invariant.1
 
 pub returns-clause-table : goal.returns-clause-table
 returns-clause-table g c = let view = ap (λ w. w.token) c.writer.view_is in (c.two_rounds.ensures.table ∙ ap table view, ap number (c.two_rounds.ensures.steps barrier refl).4 ∙ ap number view)
@@ -56,15 +50,9 @@ returns-clause-steps g c = subst (λ (t : Token _). Rounds (records_of c.args.se
     (c.two_rounds.ensures.steps barrier refl)
 
 pub returns-clause-ended : goal.returns-clause-ended
-returns-clause-ended g c =
-    let t = c.writer.inside.token in
-    let u = c.two_rounds.new.token in
-    let e = c.two_rounds.ensures in
-    let w = c.writer.invariant.0 in
-    let steps = (e.steps barrier refl).4 in
-    let free = is_free g.C.Client.meaning t c.writer.inside.backlog w c.writer.inside.calls c.writer.invariant.1 (subst (λ w. w.calls < 2 ^ 40) (sym c.writer.view_is) c.requires.calls) in
-    subst (λ (x : Token _). HaveEnded g.C.Client.meaning x u) (ap (λ w. w.token) c.writer.view_is)
-    (have_ended g.C.Client.meaning g.met.C.Client.passes t u (state u).steps true free (ap origin steps) (ap number steps ∙ w.first) (e.state true refl))
+returns-clause-ended g c = subst (λ (x : Token _). HaveEnded g.C.Client.meaning x c.two_rounds.new.token) (ap (λ w. w.token) c.writer.view_is)
+    (ended_after g.C.Client.meaning c.writer.inside.token c.writer.inside.backlog c.writer.invariant.0 g.met.C.Client.passes c.two_rounds.new.token true c.writer.inside.calls c.writer.invariant.1
+    (subst (λ w. w.calls < 2 ^ 40) (sym c.writer.view_is) c.requires.calls) _ _ _ (c.two_rounds.ensures.steps barrier refl) (c.two_rounds.ensures.state true refl))
 
 pub returns-clause-pending : goal.returns-clause-pending
 returns-clause-pending g c = ap (λ (s : TokenState). s.pending) (c.two_rounds.ensures.state true refl)

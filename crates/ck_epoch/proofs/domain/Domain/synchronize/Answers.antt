@@ -1,8 +1,8 @@
 use Rattle.std.proofs.Common.{◌+◌, ◌<◌, ◌^◌, false, refl, sym, ap, ◌∙◌, subst}
-use Rattle.ck_run.specs.Tokens.{table, origin, number}
+use Rattle.ck_run.specs.Tokens.{table, number}
 use Rattle.ck_epoch.specs.State.{Token, TokenState, records_of, synchronize, state}
 use Rattle.ck_epoch.specs.Rounds.{Rounds, HaveEnded}
-use Rattle.ck_epoch.proofs.TwoRounds.{is_free, counts_more, writer_after, have_ended}
+use Rattle.ck_epoch.proofs.TwoRounds.{is_free, both_after, ended_after}
 use Rattle.ck_epoch.proofs.domain.Domain.synchronize.Goals as goal
 
 pub two_rounds-requires-clause-table : goal.two_rounds-requires-clause-table
@@ -17,15 +17,10 @@ two_rounds-requires-clause-name g c = (false, refl)
 
 pub invariant_of-writer : goal.invariant_of-writer
 invariant_of-writer g c =
-    let t = c.writer.inside.token in
-    let u = c.two_rounds.new.token in
-    let e = c.two_rounds.ensures in
-    let w = c.writer.invariant.0 in
-    let same = ap number (e.steps synchronize refl).4 in
-    let is = e.state false refl in (
-      writer_after g.C.Client.meaning t c.writer.inside.backlog w u false (state u).steps e.part e.table same is c.writer.inside.backlog w.pending w.retired,
-      counts_more g.C.Client.meaning t c.writer.inside.backlog w u false (state u).steps e.part e.table same is c.writer.inside.calls c.writer.invariant.1,
-    )
+    let meaning = g.C.Client.meaning in
+    let t = c.writer.inside.token in let b = c.writer.inside.backlog in let w = c.writer.invariant.0 in
+    let u = c.two_rounds.new.token in let e = c.two_rounds.ensures in
+    both_after meaning t b w u false (state u).steps e.part e.table (ap number (e.steps synchronize refl).4) (e.state false refl) b w.pending w.retired c.writer.inside.calls c.writer.invariant.1
 
 pub returns-clause-table : goal.returns-clause-table
 returns-clause-table g c = let view = ap (λ w. w.token) c.writer.view_is in (c.two_rounds.ensures.table ∙ ap table view, ap number (c.two_rounds.ensures.steps synchronize refl).4 ∙ ap number view)
@@ -35,15 +30,9 @@ returns-clause-steps g c = subst (λ (t : Token _). Rounds (records_of c.args.se
     (c.two_rounds.ensures.steps synchronize refl)
 
 pub returns-clause-ended : goal.returns-clause-ended
-returns-clause-ended g c =
-    let t = c.writer.inside.token in
-    let u = c.two_rounds.new.token in
-    let e = c.two_rounds.ensures in
-    let w = c.writer.invariant.0 in
-    let steps = (e.steps synchronize refl).4 in
-    let free = is_free g.C.Client.meaning t c.writer.inside.backlog w c.writer.inside.calls c.writer.invariant.1 (subst (λ w. w.calls < 2 ^ 40) (sym c.writer.view_is) c.requires.calls) in
-    subst (λ (x : Token _). HaveEnded g.C.Client.meaning x u) (ap (λ w. w.token) c.writer.view_is)
-    (have_ended g.C.Client.meaning g.met.C.Client.passes t u (state u).steps false free (ap origin steps) (ap number steps ∙ w.first) (e.state false refl))
+returns-clause-ended g c = subst (λ (x : Token _). HaveEnded g.C.Client.meaning x c.two_rounds.new.token) (ap (λ w. w.token) c.writer.view_is)
+    (ended_after g.C.Client.meaning c.writer.inside.token c.writer.inside.backlog c.writer.invariant.0 g.met.C.Client.passes c.two_rounds.new.token false c.writer.inside.calls c.writer.invariant.1
+    (subst (λ w. w.calls < 2 ^ 40) (sym c.writer.view_is) c.requires.calls) _ _ _ (c.two_rounds.ensures.steps synchronize refl) (c.two_rounds.ensures.state false refl))
 
 pub returns-clause-items : goal.returns-clause-items
 returns-clause-items g c = let is = c.two_rounds.ensures.state false refl in (

@@ -6,7 +6,7 @@ use Rattle.std.specs.FinSet as set
 use Rattle.std.specs.Vec.{with_items}
 use Rattle.ck_words.specs.Buddies.{ArePiecesApart, IsAlignedIn, IsFree, IsArenaOf, HasWordOut, piece, arena_of, with_pieces_out, AddsPiece}
 use Rattle.ck_words.proofs.Members.{adds}
-use Rattle.ck_words.proofs.Arenas.{at_least, at_most, arena_apart, row_tall, row_from, row_to, row_in_tree, IsTaken, taken_row, row_enough, none_where_full, none_where_empty, not_out_of_free}
+use Rattle.ck_words.proofs.Arenas.{at_least, at_most, arena_apart, row_tall, row_from, row_to, row_in_tree, IsTaken, taken_row, row_enough, none_where_full, none_where_empty, whole_where_empty, leftmost_place, not_out_of_free}
 use Rattle.ck_words.proofs.buddies.Buddies.take.Goals as goal
 use Rattle.ck_words.proofs.buddies.Buddies.take.Goals.{After-place_of}
 
@@ -31,6 +31,10 @@ pub returns-then-from-depth-clause-apart : goal.returns-then-from-depth-clause-a
 returns-then-from-depth-clause-apart c =
     let inside = c.self.inside in
     subst ArePiecesApart c.self.view_is (arena_apart inside.first inside.log_len inside.log_min inside.free inside.halvings.items c.self.invariant)
+
+pub returns-then-from-depth-clause-first : goal.returns-then-from-depth-clause-first
+returns-then-from-depth-clause-first c =
+    λ empty. absurd (none_where_empty c.args.self.now c.args.log c.requires.most empty ((returns-then-from-depth-clause-none c).0 refl))
 
 pub descend-node-requires-clause-tall : goal.descend-node-requires-clause-tall
 descend-node-requires-clause-tall c =
@@ -120,3 +124,14 @@ pub returns-clause-apart : goal.returns-clause-apart
 returns-clause-apart c =
     let inside = c.self.inside in
     subst (λ h. ArePiecesApart (arena_of inside.first inside.log_len inside.log_min h)) (sym (items_are c)) (arena_apart inside.first inside.log_len inside.log_min _ c.take_out.new.halvings (taken_here c).is_arena)
+
+-- where nothing is out, the whole arena is free, so the way down goes to the first node of its row
+pub returns-clause-first : goal.returns-clause-first
+unfolding arena_of
+returns-clause-first c empty =
+    let inside = c.self.inside in let h = inside.halvings.items in
+    let same : arena_of inside.first inside.log_len inside.log_min h ≡ c.args.self.now = c.self.view_is in
+    let free : slice_index h 1 ≡ 0 = whole_where_empty inside.first inside.log_len inside.log_min inside.free h c.self.invariant (ap (λ a. a.out) same ∙ empty) in
+    let low : slice_index c.deref.result.now 1 ≡ 0 = ap (λ l. slice_index l 1) c.deref.ensures.value ∙ free in
+    let node : c.descend-node.result ≡ 2 ^ (inside.log_len - c.args.log) = c.descend-node.ensures.leftmost low in
+    leftmost_place inside.first inside.log_len c.args.log c.place_of.result c.descend-node.result (at_most _ _ _ _ _ c.self.view_is c.args.log c.requires.most) node c.place_of.ensures ∙ ap (λ a. a.first) same

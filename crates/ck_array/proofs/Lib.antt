@@ -1,0 +1,3 @@
+mod Loading
+pub mod Resting
+mod Editing

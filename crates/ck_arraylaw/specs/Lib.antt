@@ -1,0 +1,10 @@
+pub mod Calls
+pub mod Layout
+pub mod Array
+pub mod Client
+pub mod Host
+pub mod Regions
+pub mod Law
+pub mod Reached
+pub mod Laws
+pub mod Known

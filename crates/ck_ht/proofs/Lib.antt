@@ -1,0 +1,10 @@
+pub mod Elsewhere
+pub mod EventSteps
+pub mod PlacingEvents
+pub mod BoundingEvents
+pub mod LogEvents
+pub mod Settling
+pub mod Closing
+pub mod AtOpening
+pub mod Repeating
+pub mod SignalSteps

@@ -1,0 +1,5 @@
+pub mod Events
+pub mod Getting
+pub mod Ends
+pub mod Settled
+pub mod Closed

@@ -1,0 +1,9 @@
+//! A hash table with one writer and many readers, after `ck_ht` of Concurrency Kit.
+#![tactic(auto)]
+
+mod laws;
+pub mod part;
+mod table;
+
+pub use ck_htlaw::HtClient;
+pub use table::{Ht, HtPass, HtWriter, home};

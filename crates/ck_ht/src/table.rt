@@ -1,0 +1,279 @@
+//! A table with a domain of its own.
+ghost use Rattle.std.specs.Prelude.{◌≡◌, ℕ, ◌+◌, ◌-◌, ◌<◌, ◌≤◌, ◌^◌, Option, List, [], ◌∷◌, ◌++◌, length, vec_len, IfOk, MatchResult, All};
+ghost use Rattle.ck_run.specs.declared.account.Step.TheVariants.{Store};
+ghost use Rattle.ck_run.specs.Run.{call};
+ghost use Rattle.ck_run.specs.Tokens.{table, adding};
+ghost use Rattle.ck_run.specs.Ends.{fresh};
+ghost use Rattle.ck_epoch.specs.State.{depth, active_word, end as ends};
+ghost use Rattle.ck_epoch.specs.Calls.{rec_of, Begins};
+ghost use Rattle.ck_epoch.specs.Closing.{AreFreshPasses};
+ghost use Rattle.ck_epoch.specs.Lists.{Answers};
+ghost use Rattle.ck_signal.specs.Signals.{readers};
+ghost use Rattle.ck_signal.specs.Words.{marks, reaches, notes, asks};
+ghost use Rattle.ck_signal.specs.Told.{applied_word_of, answered_word_of};
+ghost use Rattle.ck_history.specs.declared.event.ReaderEvent.TheVariants.{Answered, Reached};
+ghost use Rattle.ck_history.specs.declared.event.WriterEvent.TheVariants.{Told};
+ghost use Rattle.ck_history.specs.declared.log.Look.TheVariants.{Again};
+ghost use Rattle.ck_htlaw.specs.Client.{table as table_client, is_region, home_of};
+ghost use Rattle.ck_htlaw.specs.Known.{knows};
+ghost use Rattle.ck_htlaw.specs.Law.{retries_of};
+ghost use Rattle.ck_htlaw.specs.Reached.{with_signals};
+ghost use Rattle.ck_htread.specs.Answered.{HasAnswered};
+ghost use Rattle.ck_htread.specs.Reading.{Looks, look_result, answered_by, retries_by, totals_of};
+ghost use Rattle.ck_ht.specs.Closed.{IsClosedTable};
+ghost use Rattle.ck_ht.specs.Ends.{IsPassReady};
+ghost use Rattle.ck_ht.specs.Events.{answer_events, pass_events, hand_events};
+ghost use Rattle.ck_ht.specs.Getting.{Gets};
+
+use crate::laws::settled_law;
+use ck_epoch::{Closed, Domain, Item, Pass, Writer};
+use ck_history::{Key, Look};
+use ck_htlaw::HtClient;
+use ck_signal::Signals;
+use ck_words::Back;
+use crossbeam_utils::Backoff;
+use std::alloc::{AllocError, Global};
+use std::marker::Model;
+use std::sync::Wait;
+
+/// A reader's token.
+pub type HtPass = Pass<Signals<HtClient>>;
+
+/// The writer's token.
+#[derive(Drop)]
+pub struct HtWriter<F> {
+    pub(crate) writer: Writer<Signals<HtClient>, F>,
+}
+
+impl<F> Model for HtWriter<F> {
+    ghost use Rattle.ck_run.specs.Tokens.{origin};
+    ghost use Rattle.ck_ht.specs.Ends.{HtWriter as WriterOf, IsBetweenUpdates};
+
+    ghost Value = { WriterOf F };
+
+    ghost view = { λ w. record { writer = w.writer } };
+
+    ghost invariant = { λ w. IsBetweenUpdates (origin w.writer.token) w.writer };
+}
+
+/// A hash table that threads share. Contracts see the table of its words.
+#[derive(Drop)]
+pub struct Ht {
+    pub(crate) domain: Domain<Signals<HtClient>>,
+}
+
+impl Model for Ht {
+    ghost use Rattle.std.specs.Prelude.{◌≡◌};
+    ghost use Rattle.ck_run.specs.Tokens.{Table};
+    ghost use Rattle.ck_epoch.specs.declared.about.About.{About as AboutOf};
+    ghost use Rattle.ck_epoch.specs.State.{records_of};
+    ghost use Rattle.ck_signal.specs.declared.signals.Signals.{Signals as SignalsOf};
+    ghost use Rattle.ck_signal.specs.Signals.{readers};
+    ghost use Rattle.ck_htlaw.specs.declared.client.HtClient.{HtClient as ClientOf};
+
+    ghost Value = { Table (AboutOf (SignalsOf ClientOf)) };
+
+    ghost view = { λ h. h.domain };
+
+    ghost invariant = { λ h. records_of h.domain.origin ≡ readers h.domain.origin };
+}
+
+/// Where a retired piece goes back: to the arena.
+pub fn home(item: Item) -> Back
+    ensures { result ≡ home_of item }
+{
+    Back {
+        shelf: 0,
+        at: item.at,
+        log: item.log,
+    }
+}
+
+/// How many pieces can be out.
+const ROOM: u64 = 262_144;
+
+/// The arena has 2^23 words.
+const ARENA_LOG: u64 = 23;
+
+impl Ht {
+    /// A table whose map is empty, its writer, and the passes of its readers, in order. The only error is want of memory.
+    pub fn new<F: Fn(Item) -> Back + Drop>(
+        alloc: Global,
+        seed: u64,
+        readers: u64,
+        handler: F,
+    ) -> Result<(Ht, HtWriter<F>, Vec<HtPass>), AllocError>
+        requires readers { (1 ≤ readers) × (readers ≤ 64) }
+        requires handler { Answers (λ item. is_region (record { seed = seed; arena_log = 23 }) item) (λ item. home_of item) (F.pre handler) (F.post handler) }
+        ensures client { IfOk result (λ r. r.0.origin.config.client.client ≡ record { seed = seed; arena_log = 23 }) }
+        ensures writer { IfOk result (λ r. (r.1.writer.token ≡ fresh r.0 0) × (hand_events r.0.origin r.1.writer.token ≡ [])) }
+        ensures passes { IfOk result (λ r. (vec_len r.2 ≡ readers) × AreFreshPasses r.0 1 r.2.items) }
+        ensures ready { IfOk result (λ r. All (λ p. IsPassReady r.0.origin p × (pass_events r.0.origin p.token ≡ [])) r.2.items) }
+    {
+        let client = Signals::new(
+            HtClient {
+                seed,
+                arena_log: ARENA_LOG,
+            },
+            readers,
+        );
+        let (domain, writer, passes) = Domain::new(alloc, client, readers, ROOM, handler)?;
+        Ok((Ht { domain }, HtWriter { writer }, passes))
+    }
+
+    /// The domain that the table stands in.
+    pub fn domain(&self) -> &Domain<Signals<HtClient>>
+        ensures { result.now ≡ self.now }
+    {
+        &self.domain
+    }
+
+    /// Opens a section of the pass, or nests one, as `ck_epoch_begin`.
+    pub fn begin(&self, pass: &mut HtPass)
+        requires table { table pass.old.token ≡ self.now }
+        requires ready { IsPassReady self.now.origin pass.old }
+        requires calls { pass.old.calls < 2 ^ 40 }
+        requires depth { depth pass.old.token < 2 ^ 32 }
+        ensures table { table pass.new.token ≡ table pass.old.token }
+        ensures steps { Begins pass.old.token pass.new.token }
+        ensures totals { totals_of (knows with_signals self.now.origin pass.new.token) ≡ totals_of (knows with_signals self.now.origin pass.old.token) }
+        ensures events { pass_events self.now.origin pass.new.token ≡ pass_events self.now.origin pass.old.token }
+        ensures ready { IsPassReady self.now.origin pass.new }
+        ensures calls { pass.new.calls ≡ pass.old.calls + 1 }
+        ensures depth { depth pass.new.token ≡ depth pass.old.token + 1 }
+    {
+        self.domain.begin(pass)
+    }
+
+    /// Ends the section that was opened last, as `ck_epoch_end`.
+    pub fn end(&self, pass: &mut HtPass)
+        requires table { table pass.old.token ≡ self.now }
+        requires ready { IsPassReady self.now.origin pass.old }
+        requires calls { pass.old.calls < 2 ^ 40 }
+        requires depth { 0 < depth pass.old.token }
+        ensures step { pass.new ≡ record pass.old {
+          token = adding pass.old.token (call ends [] (Store (active_word (rec_of pass.old.token)) (depth pass.old.token - 1) ∷ []));
+          calls = pass.old.calls + 1;
+        } }
+        ensures totals { totals_of (knows with_signals self.now.origin pass.new.token) ≡ totals_of (knows with_signals self.now.origin pass.old.token) }
+        ensures events { pass_events self.now.origin pass.new.token ≡ pass_events self.now.origin pass.old.token }
+        ensures ready { IsPassReady self.now.origin pass.new }
+        ensures depth { depth pass.new.token ≡ depth pass.old.token - 1 }
+    {
+        self.domain.end(pass)
+    }
+
+    /// The value of the key, or that it is absent, or that the look is to be made again, as `ck_ht_get_spmc`, but without its loop. An
+    /// answer is that of the map at a moment between the look's load of the root and its last load.
+    pub fn look(&self, pass: &mut HtPass, key: Key) -> Look
+        requires table { table pass.old.token ≡ self.now }
+        requires section { 0 < depth pass.old.token }
+        requires ready { IsPassReady self.now.origin pass.old }
+        requires calls { pass.old.calls < 2 ^ 40 }
+        ensures table { table pass.new.token ≡ table pass.old.token }
+        ensures steps { Looks with_signals self.now.origin key pass.old.token result pass.new.token }
+        ensures looks { (knows with_signals self.now.origin pass.new.token).looks ≡ (knows with_signals self.now.origin pass.old.token).looks ++ answered_by key result }
+        ensures events { pass_events self.now.origin pass.new.token ≡ pass_events self.now.origin pass.old.token ++ answer_events (answered_by key result) }
+        ensures placed { (x : Option ℕ) → result ≡ look_result x → HasAnswered with_signals self.now.origin pass.new.token (length (knows with_signals self.now.origin pass.old.token).looks) key x }
+        ensures retries { retries_of (knows with_signals self.now.origin pass.new.token).local ≡ retries_of (knows with_signals self.now.origin pass.old.token).local + retries_by result }
+        ensures again { (before after : ℕ) → result ≡ Again before after → before < after }
+        ensures ready { IsPassReady self.now.origin pass.new }
+        ensures calls { pass.new.calls ≡ pass.old.calls + length (answered_by key result) }
+        ensures depth { depth pass.new.token ≡ depth pass.old.token }
+    {
+        ck_htread::look(&self.domain, pass, key)
+    }
+
+    /// The value of the key, or that it is absent: it looks until a look answers, as `ck_ht_get_spmc`.
+    pub fn get<R: Wait>(&self, rt: &R, pass: &mut HtPass, key: Key) -> Option<u64>
+        requires table { table pass.old.token ≡ self.now }
+        requires section { 0 < depth pass.old.token }
+        requires ready { IsPassReady self.now.origin pass.old }
+        requires calls { pass.old.calls < 2 ^ 40 }
+        ensures table { table pass.new.token ≡ table pass.old.token }
+        ensures steps { Gets self.now.origin key pass.old.token (look_result result) pass.new.token }
+        ensures looks { (knows with_signals self.now.origin pass.new.token).looks ≡ (knows with_signals self.now.origin pass.old.token).looks ++ (key, result) ∷ [] }
+        ensures events { pass_events self.now.origin pass.new.token ≡ pass_events self.now.origin pass.old.token ++ Answered key result ∷ [] }
+        ensures placed { HasAnswered with_signals self.now.origin pass.new.token (length (knows with_signals self.now.origin pass.old.token).looks) key result }
+        ensures ready { IsPassReady self.now.origin pass.new }
+        ensures calls { pass.new.calls ≡ pass.old.calls + 1 }
+        ensures depth { depth pass.new.token ≡ depth pass.old.token }
+    {
+        let backoff = Backoff::new();
+        for _ in rt.forever() {
+            match self.look(pass, key) {
+                Look::Found(value) => return Some(value),
+                Look::Absent => return None,
+                Look::Again { .. } => backoff.snooze(),
+            }
+        }
+        unreachable!()
+    }
+
+    /// Tells the readers how many updates the log has.
+    pub fn mark<F>(&self, w: &mut HtWriter<F>)
+        requires table { table w.old.writer.token ≡ self.now }
+        ensures step { w.new.writer ≡ record w.old.writer { token = adding w.old.writer.token (marks (applied_word_of table_client self.now.origin) (length (knows with_signals self.now.origin w.old.writer.token).log) ∷ []) } }
+        ensures log { (knows with_signals self.now.origin w.new.writer.token).log ≡ (knows with_signals self.now.origin w.old.writer.token).log }
+        ensures events { hand_events self.now.origin w.new.writer.token ≡ hand_events self.now.origin w.old.writer.token }
+    {
+        ck_signal::mark(&self.domain, &mut w.writer)
+    }
+
+    /// Whether the writer has marked at least `n` updates: Ok if and only if the number that this call loads is at least `n`. The later
+    /// answers of the pass have places of at least that number. Err carries it.
+    pub fn reached(&self, pass: &mut HtPass, n: u64) -> Result<(), u64>
+        requires table { table pass.old.token ≡ self.now }
+        requires ready { IsPassReady self.now.origin pass.old }
+        ensures step { MatchResult result
+            (λ _. (found : ℕ) × (n ≤ found) × (pass.new ≡ record pass.old { token = adding pass.old.token (reaches (applied_word_of table_client self.now.origin) n found ∷ []) }))
+            (λ found. (found < n) × (pass.new ≡ record pass.old { token = adding pass.old.token (reaches (applied_word_of table_client self.now.origin) n found ∷ []) })) }
+        ensures totals { totals_of (knows with_signals self.now.origin pass.new.token) ≡ totals_of (knows with_signals self.now.origin pass.old.token) }
+        ensures events { pass_events self.now.origin pass.new.token ≡ pass_events self.now.origin pass.old.token ++ Reached n result ∷ [] }
+        ensures ready { IsPassReady self.now.origin pass.new }
+        ensures depth { depth pass.new.token ≡ depth pass.old.token }
+    {
+        ck_signal::reached(&self.domain, pass, n)
+    }
+
+    /// Tells the writer how many answers the pass has given.
+    pub fn note(&self, pass: &mut HtPass)
+        requires table { table pass.old.token ≡ self.now }
+        requires ready { IsPassReady self.now.origin pass.old }
+        ensures step { pass.new ≡ record pass.old { token = adding pass.old.token (notes (answered_word_of table_client self.now.origin (rec_of pass.old.token)) (length (knows with_signals self.now.origin pass.old.token).looks) ∷ []) } }
+        ensures totals { totals_of (knows with_signals self.now.origin pass.new.token) ≡ totals_of (knows with_signals self.now.origin pass.old.token) }
+        ensures events { pass_events self.now.origin pass.new.token ≡ pass_events self.now.origin pass.old.token }
+        ensures ready { IsPassReady self.now.origin pass.new }
+        ensures depth { depth pass.new.token ≡ depth pass.old.token }
+    {
+        ck_signal::note(&self.domain, pass)
+    }
+
+    /// How many answers the reader with this number, from 0, has noted. These first answers have places of at most the length of the log.
+    pub fn answered<F>(&self, w: &mut HtWriter<F>, reader: u64) -> u64
+        requires table { table w.old.writer.token ≡ self.now }
+        requires reader { reader < readers self.now.origin }
+        ensures step { w.new.writer ≡ record w.old.writer { token = adding w.old.writer.token (asks (answered_word_of table_client self.now.origin reader) reader result ∷ []) } }
+        ensures log { (knows with_signals self.now.origin w.new.writer.token).log ≡ (knows with_signals self.now.origin w.old.writer.token).log }
+        ensures events { hand_events self.now.origin w.new.writer.token ≡ hand_events self.now.origin w.old.writer.token ++ Told reader result ∷ [] }
+    {
+        ck_signal::answered(&self.domain, &mut w.writer, reader)
+    }
+
+    /// The words of the table as they were left. The writer and the passes are given back: what they did are the parts of one true run, in
+    /// which the answers of each reader have places that don't fall, and bear out what `reached` and `answered` told.
+    pub fn close<F: Drop>(self, w: HtWriter<F>, passes: Vec<HtPass>) -> Closed
+        requires writer { table w.writer.token ≡ self }
+        requires passes { All (λ p. table p.token ≡ self) passes.items }
+        requires ready { All (λ p. IsPassReady self.origin p) passes.items }
+        ensures closed { IsClosedTable w.writer.token passes.items result.words.items }
+    {
+        ck_signal::signals_law::<HtClient>();
+        ck_htlaw::table_law::<Signals<HtClient>>();
+        ck_htread::places_law::<Signals<HtClient>>();
+        settled_law();
+        let Ht { domain } = self;
+        let HtWriter { writer } = w;
+        domain.close(writer, passes)
+    }
+}

@@ -1,0 +1,4 @@
+pub mod Scan
+pub mod Reading
+pub mod Roots
+pub mod Answered

@@ -1,0 +1,6 @@
+use Rattle.std.proofs.Common.{[], ◌∷◌}
+use Rattle.ck_htlaw.specs.Calls.{set}
+use Rattle.ck_htwrite.proofs.calls.set.Given as goal
+
+abbrev pub ghosts-set_by : goal.ghosts-set_by
+ghosts-set_by g a = record { opens = set ∷ a.key ∷ a.value ∷ [] }

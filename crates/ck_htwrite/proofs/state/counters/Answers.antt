@@ -1,0 +1,5 @@
+use Rattle.ck_htwrite.proofs.Openings.{few_counters}
+use Rattle.ck_htwrite.proofs.state.counters.Goals as goal
+
+pub returns-clause-small : goal.returns-clause-small
+returns-clause-small c = few_counters c.arena_log.result c.arena_log.ensures.most

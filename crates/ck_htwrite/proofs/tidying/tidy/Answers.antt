@@ -1,0 +1,57 @@
+use Rattle.std.proofs.Common.{◌≡◌, ℕ, ◌+◌, ◌≤◌, length, length-append, sym, ap, ◌∙◌, subst, arith}
+use Rattle.ck_run.specs.Tokens.{table}
+use Rattle.ck_htlaw.specs.Host.{host}
+use Rattle.ck_htlaw.specs.Known.{knows}
+use Rattle.ck_htwrite.specs.State.{Ready}
+use Rattle.ck_htwrite.specs.Writes.{counters_in}
+use Rattle.ck_htwrite.proofs.Between.{once}
+use Rattle.ck_htwrite.proofs.tidying.tidy.Goals as goal
+
+pub tidy_map-requires-clause-calls : goal.tidy_map-requires-clause-calls
+tidy_map-requires-clause-calls g c = let few = c.requires.calls in omega arith
+
+pub tidy_map-requires-clause-once : goal.tidy_map-requires-clause-once
+tidy_map-requires-clause-once g c =
+    let h = host g.D.Client.meaning g.D.Within.place g.D.Within.part in let o = c.args.domain.now.origin in let n = counters_in h o in let place = h.place o.config.client in let w = c.args.writer.now in let s = c.args.state.now in let ready = c.requires.ready in let r = ready.lists in
+    let same = ap (λ v. v.origin) c.requires.table in let writing = c.tally-updates.ensures.writing in
+    once h g.met.D.Within.within o w.token same writing.part writing.first s r
+
+pub tidy_map-requires-clause-arena : goal.tidy_map-requires-clause-arena
+tidy_map-requires-clause-arena g c = c.requires.ready.arena
+
+pub tidy_map-requires-clause-ready : goal.tidy_map-requires-clause-ready
+tidy_map-requires-clause-ready g c = c.requires.ready.lists
+
+pub returns-clause-log : goal.returns-clause-log
+returns-clause-log g c =
+    let h = host g.D.Client.meaning g.D.Within.place g.D.Within.part in let o = c.args.domain.now.origin in let n = counters_in h o in let place = h.place o.config.client in let w = c.args.writer.now in let s = c.args.state.now in let ready = c.requires.ready in let r = ready.lists in
+    ap (λ v. (knows h o v.token).log) c.set_tally.ensures ∙ c.in_ok-tidy_map.ensures.over.at.log
+
+pub returns-clause-same : goal.returns-clause-same
+returns-clause-same g c =
+    let steps = c.in_ok-tidy_map.ensures.steps in let told : c.tally-updates-2.result ≡ c.args.writer.now.tally = c.tally-updates-2.ensures.tally ∙ ap (λ v. v.tally) steps.3 in
+    (steps.0, steps.1, steps.2, c.set_tally.ensures ∙ (λ i. record (steps.3 i) { calls = (steps.3 i).calls + 1; tally = told i + 1 }))
+
+pub returns-clause-calls : goal.returns-clause-calls
+returns-clause-calls g c =
+    let steps = c.in_ok-tidy_map.ensures.steps in let k : ℕ = steps.1 in let le : k ≤ 1 = steps.2 in
+    let one : c.set_tally.new.self.calls ≡ c.tidy_map.new.writer.calls + 1 = ap (λ v. v.calls) c.set_tally.ensures in
+    let two : c.tidy_map.new.writer.calls ≡ c.args.writer.now.calls + k = ap (λ v. v.calls) steps.3 in omega arith
+
+pub returns-clause-table : goal.returns-clause-table
+returns-clause-table g c = ap (λ v. table v.token) c.set_tally.ensures ∙ ap (λ v. table v.token) c.in_ok-tidy_map.ensures.steps.3
+
+pub returns-clause-ready : goal.returns-clause-ready
+returns-clause-ready g c =
+    let h = host g.D.Client.meaning g.D.Within.place g.D.Within.part in let o = c.args.domain.now.origin in let n = counters_in h o in let place = h.place o.config.client in let w = c.args.writer.now in let s = c.args.state.now in let ready = c.requires.ready in let r = ready.lists in
+    let u = c.tidy_map.new.writer in let over = c.in_ok-tidy_map.ensures.over in let steps = c.in_ok-tidy_map.ensures.steps in
+    let k : ℕ = steps.1 in
+    let tally : u.tally ≡ w.tally = ap (λ v. v.tally) steps.3 in let calls : u.calls ≡ w.calls + k = ap (λ v. v.calls) steps.3 in
+    let more : length (knows h o u.token).log ≡ length (knows h o w.token).log + 1 = ap length over.at.log ∙ length-append (knows h o w.token).log _ in
+    let before : w.tally ≡ length (knows h o w.token).log = ready.tally in let few : w.tally ≤ w.calls = ready.few in let told : c.tally-updates-2.result ≡ u.tally = c.tally-updates-2.ensures.tally in
+    subst (λ v. Ready h o v c.tidy_map.new.state) (sym c.set_tally.ensures) record {
+      lists = record { is_writer = over.is_writer; is = over.at.local; idles = over.stage_is; reflects = over.lists };
+      arena = c.in_ok-tidy_map.ensures.arena;
+      tally = omega arith;
+      few = omega arith;
+    }

@@ -1,0 +1,5 @@
+pub mod Arena
+pub mod State
+pub mod Writes
+pub mod Updates
+pub mod Rebuild

@@ -1,0 +1,149 @@
+//! The cases of an update, store by store.
+ghost use Rattle.std.specs.Prelude.{◌≡◌, ◌+◌, ◌^◌, ◌<◌, map};
+ghost use Rattle.ck_run.specs.Run.{further};
+ghost use Rattle.ck_run.specs.Tokens.{table};
+ghost use Rattle.ck_htlaw.specs.Host.{host, lies};
+ghost use Rattle.ck_htlaw.specs.Layout.{log_of};
+ghost use Rattle.ck_htwrite.specs.State.{IsShaped, next_count};
+ghost use Rattle.ck_htwrite.specs.Updates.{key_steps, insert_steps, reuse_steps, move_steps, remove_steps, keyed_lists, inserted_lists, reused_lists, moved_lists, removed_lists};
+ghost use Rattle.ck_htwrite.specs.Writes.{counters_in, opened, MayMake, Steps};
+
+use crate::state::HtState;
+use crate::writes::{bump, put_word};
+use ck_epoch::{Domain, Within, Writer};
+use ck_history::Key;
+use ck_htlaw::HtClient;
+use ck_htplan::{high_word, low_word};
+use ck_run::{Continues, Opens};
+
+// The words of a slot.
+pub(crate) const STATE: u64 = 0;
+
+pub(crate) const LOW: u64 = 1;
+
+pub(crate) const HIGH: u64 = 2;
+
+pub(crate) const VALUE: u64 = 3;
+
+// The states of a slot that is in use.
+pub(crate) const FULL: u64 = 1;
+
+pub(crate) const TOMBSTONE: u64 = 2;
+
+// A slot that has its value gets its key, and is full then: a look that loaded 1 finds all its words.
+pub(crate) fn fill<D: Within<HtClient>, F>(
+    domain: &Domain<D>,
+    writer: &mut Writer<D, F>,
+    state: &mut HtState,
+    at: u64,
+    key: Key,
+)
+    requires table { table writer.old.token ≡ domain.now }
+    requires shape { IsShaped (counters_in (host D.meaning D.place D.part) domain.now.origin) state.old }
+    requires slot { at < 2 ^ log_of state.old.root }
+    requires due { MayMake (host D.meaning D.place D.part) domain.now.origin writer.old.token (map further (key_steps (lies (host D.meaning D.place D.part) domain.now.origin) state.old.root at key)) }
+    ensures steps { Steps (host D.meaning D.place D.part) domain.now.origin writer.old (map further (key_steps (lies (host D.meaning D.place D.part) domain.now.origin) state.old.root at key)) writer.new }
+    ensures state { state.new ≡ keyed_lists state.old at key }
+{
+    put_word::<D, F, Continues>(domain, writer, state, at, LOW, low_word(key));
+    put_word::<D, F, Continues>(domain, writer, state, at, HIGH, high_word(key));
+    put_word::<D, F, Continues>(domain, writer, state, at, STATE, FULL);
+}
+
+// A fresh key takes an empty slot. Looks stopped at it, so no counter is raised.
+pub(crate) fn insert<D: Within<HtClient>, F, O: Opens>(
+    domain: &Domain<D>,
+    writer: &mut Writer<D, F>,
+    state: &mut HtState,
+    at: u64,
+    key: Key,
+    value: u64,
+)
+    requires table { table writer.old.token ≡ domain.now }
+    requires shape { IsShaped (counters_in (host D.meaning D.place D.part) domain.now.origin) state.old }
+    requires slot { at < 2 ^ log_of state.old.root }
+    requires keys { state.old.keys < 2 ^ 32 }
+    requires due { MayMake (host D.meaning D.place D.part) domain.now.origin writer.old.token (opened O.opens (insert_steps (lies (host D.meaning D.place D.part) domain.now.origin) state.old.root at key value)) }
+    ensures steps { Steps (host D.meaning D.place D.part) domain.now.origin writer.old (opened O.opens (insert_steps (lies (host D.meaning D.place D.part) domain.now.origin) state.old.root at key value)) writer.new }
+    ensures state { state.new ≡ inserted_lists state.old at key value }
+{
+    put_word::<D, F, O>(domain, writer, state, at, VALUE, value);
+    fill(domain, writer, state, at, key);
+    state.keys += 1;
+}
+
+// A fresh key takes a tombstone. A look may still hold the words of the key that stood there, so the counter is raised before they change.
+pub(crate) fn reuse<D: Within<HtClient>, F, O: Opens>(
+    domain: &Domain<D>,
+    writer: &mut Writer<D, F>,
+    state: &mut HtState,
+    at: u64,
+    key: Key,
+    value: u64,
+)
+    requires table { table writer.old.token ≡ domain.now }
+    requires shape { IsShaped (counters_in (host D.meaning D.place D.part) domain.now.origin) state.old }
+    requires slot { at < 2 ^ log_of state.old.root }
+    requires small { next_count (counters_in (host D.meaning D.place D.part) domain.now.origin) state.old < 2 ^ 62 }
+    requires keys { state.old.keys < 2 ^ 32 }
+    requires tombstones { 0 < state.old.tombstones }
+    requires due { MayMake (host D.meaning D.place D.part) domain.now.origin writer.old.token (opened O.opens (reuse_steps (lies (host D.meaning D.place D.part) domain.now.origin) state.old.root at key value (next_count (counters_in (host D.meaning D.place D.part) domain.now.origin) state.old))) }
+    ensures steps { Steps (host D.meaning D.place D.part) domain.now.origin writer.old (opened O.opens (reuse_steps (lies (host D.meaning D.place D.part) domain.now.origin) state.old.root at key value (next_count (counters_in (host D.meaning D.place D.part) domain.now.origin) state.old))) writer.new }
+    ensures state { state.new ≡ reused_lists (counters_in (host D.meaning D.place D.part) domain.now.origin) state.old at key value }
+{
+    bump::<D, F, O>(domain, writer, state);
+    put_word::<D, F, Continues>(domain, writer, state, at, VALUE, value);
+    fill(domain, writer, state, at, key);
+    state.keys += 1;
+    state.tombstones -= 1;
+}
+
+// A key moves to an earlier tombstone. The second raise comes before the later copy goes: a look that passed the first place while it was a
+// tombstone would find neither.
+pub(crate) fn move_key<D: Within<HtClient>, F, O: Opens>(
+    domain: &Domain<D>,
+    writer: &mut Writer<D, F>,
+    state: &mut HtState,
+    to: u64,
+    from: u64,
+    key: Key,
+    value: u64,
+)
+    requires table { table writer.old.token ≡ domain.now }
+    requires shape { IsShaped (counters_in (host D.meaning D.place D.part) domain.now.origin) state.old }
+    requires to { to < 2 ^ log_of state.old.root }
+    requires from { from < 2 ^ log_of state.old.root }
+    requires small { next_count (counters_in (host D.meaning D.place D.part) domain.now.origin) state.old < 2 ^ 62 }
+    requires due { MayMake (host D.meaning D.place D.part) domain.now.origin writer.old.token (opened O.opens (move_steps (lies (host D.meaning D.place D.part) domain.now.origin) state.old.root to from key value (next_count (counters_in (host D.meaning D.place D.part) domain.now.origin) state.old))) }
+    ensures steps { Steps (host D.meaning D.place D.part) domain.now.origin writer.old (opened O.opens (move_steps (lies (host D.meaning D.place D.part) domain.now.origin) state.old.root to from key value (next_count (counters_in (host D.meaning D.place D.part) domain.now.origin) state.old))) writer.new }
+    ensures state { state.new ≡ moved_lists (counters_in (host D.meaning D.place D.part) domain.now.origin) state.old to from key value }
+{
+    bump::<D, F, O>(domain, writer, state);
+    put_word::<D, F, Continues>(domain, writer, state, to, VALUE, value);
+    fill(domain, writer, state, to, key);
+    bump::<D, F, Continues>(domain, writer, state);
+    put_word::<D, F, Continues>(domain, writer, state, from, STATE, TOMBSTONE);
+}
+
+// A key leaves its slot, which is a tombstone then: keys further on are still found past it.
+pub(crate) fn delete<D: Within<HtClient>, F, O: Opens>(
+    domain: &Domain<D>,
+    writer: &mut Writer<D, F>,
+    state: &mut HtState,
+    at: u64,
+)
+    requires table { table writer.old.token ≡ domain.now }
+    requires shape { IsShaped (counters_in (host D.meaning D.place D.part) domain.now.origin) state.old }
+    requires slot { at < 2 ^ log_of state.old.root }
+    requires small { next_count (counters_in (host D.meaning D.place D.part) domain.now.origin) state.old < 2 ^ 62 }
+    requires keys { 0 < state.old.keys }
+    requires tombstones { state.old.tombstones < 2 ^ 32 }
+    requires due { MayMake (host D.meaning D.place D.part) domain.now.origin writer.old.token (opened O.opens (remove_steps (lies (host D.meaning D.place D.part) domain.now.origin) state.old.root at (next_count (counters_in (host D.meaning D.place D.part) domain.now.origin) state.old))) }
+    ensures steps { Steps (host D.meaning D.place D.part) domain.now.origin writer.old (opened O.opens (remove_steps (lies (host D.meaning D.place D.part) domain.now.origin) state.old.root at (next_count (counters_in (host D.meaning D.place D.part) domain.now.origin) state.old))) writer.new }
+    ensures state { state.new ≡ removed_lists (counters_in (host D.meaning D.place D.part) domain.now.origin) state.old at }
+{
+    put_word::<D, F, O>(domain, writer, state, at, STATE, TOMBSTONE);
+    bump::<D, F, Continues>(domain, writer, state);
+    state.keys -= 1;
+    state.tombstones += 1;
+}

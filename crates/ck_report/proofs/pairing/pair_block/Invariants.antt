@@ -1,0 +1,13 @@
+use Rattle.std.proofs.Common.{◌≡◌, ◌≤◌, ◌++◌, List, drop, length}
+use Rattle.ck_script.specs.declared.line.AskLine.{AskLine}
+use Rattle.ck_script.specs.Script.{said_of}
+use Rattle.ck_report.specs.Pairing.{asked_lines}
+use Rattle.ck_report.proofs.pairing.pair_block.Given as goal
+
+-- the lines so far are paired
+abbrev pub invariant-loop-i : goal.invariant-loop-i
+invariant-loop-i g l = record {
+  within : l.next ≤ length l.answers;
+  count : length l.block.items ≤ l.i;
+  paired : (later : List (AskLine g.row.K.Denot)) → l.block.items ++ asked_lines (said_of (drop l.i l.lines) ++ later) (drop l.next l.answers) ≡ asked_lines (said_of l.lines ++ later) l.answers;
+}

@@ -1,0 +1,80 @@
+//! The lines of a file in little room.
+ghost use Rattle.std.specs.Prelude.{◌≡◌, ◌<◌, ◌++◌, ◌∷◌, [], length, slice_get, Some, OnOk, OnErr};
+ghost use Rattle.ck_script.specs.Script.{said_of};
+ghost use Rattle.ck_script.specs.Compact.{Listed};
+
+use crate::compact::CompactLine;
+use crate::line::Numbered;
+use crate::rows::{Row, Rows};
+use std::alloc::{AllocError, Global};
+use std::marker::Model;
+
+/// What the lines of a file say, each with its number: a list of `Numbered` that is kept in rows. An update over keys of at most
+/// 64 bits takes 17 bytes and a query 9.
+#[derive(Drop)]
+pub struct Lines<L: CompactLine> {
+    rows: Rows<L::Rest>,
+}
+
+impl<L: CompactLine> Model for Lines<L> {
+    ghost use Rattle.ck_script.specs.Compact.{Listed, lines_in, AreKept};
+
+    ghost Value = { Listed L };
+
+    ghost view = { λ b. record { items = lines_in L.line_of b.rows } };
+
+    ghost invariant = { λ b. AreKept L.is_kept b.rows };
+}
+
+impl<L: CompactLine> Lines<L> {
+    /// No lines. They take no memory yet.
+    pub fn new(alloc: Global) -> Lines<L>
+        ensures { result.items ≡ [] }
+    {
+        Lines {
+            rows: Rows::new(alloc),
+        }
+    }
+
+    /// How many lines there are.
+    pub fn len(&self) -> usize
+        ensures { result ≡ length self.now.items }
+    {
+        self.rows.len()
+    }
+
+    /// Adds a line at the end. An `AllocError` leaves the lines as they were.
+    pub fn push(&mut self, line: Numbered<L>) -> Result<(), AllocError>
+        ensures ok { OnOk result (self.new.items ≡ self.old.items ++ line ∷ []) }
+        ensures err { OnErr result (self.new.items ≡ self.old.items) }
+    {
+        let (kind, number, rest) = line.what.split();
+        self.rows.push(Row {
+            line: line.line,
+            kind,
+            number,
+            rest,
+        })
+    }
+
+    /// What the line at place i says.
+    pub fn what(&self, i: usize) -> L
+        requires { i < length self.now.items }
+        ensures { slice_get (said_of self.now.items) i ≡ Some result }
+    {
+        let (kind, number, rest) = self.rows.parts(i);
+        L::join(kind, number, rest)
+    }
+
+    /// The line at place i. It takes time in the logarithm of how often a line isn't the next after the line before.
+    pub fn get(&self, i: usize) -> Numbered<L>
+        requires { i < length self.now.items }
+        ensures { slice_get self.now.items i ≡ Some result }
+    {
+        let (kind, number, rest) = self.rows.parts(i);
+        Numbered {
+            line: self.rows.line(i),
+            what: L::join(kind, number, rest),
+        }
+    }
+}
