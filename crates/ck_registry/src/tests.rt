@@ -160,7 +160,11 @@ fn next_member(registry: &Registry, visitors: &mut Vec<Visitor>) -> Option<Membe
     registry.register(next_of(registry, visitors)?).ok()
 }
 
-fn both_rows(registry: &Registry, mut visitors: Vec<Visitor>) -> Option<(RaceAnswers, ReuseAnswers)>
+// The race, and then the record that is taken again, with the same two members.
+fn race_and_reuse(
+    registry: &Registry,
+    mut visitors: Vec<Visitor>,
+) -> Option<(RaceAnswers, ReuseAnswers)>
     requires fresh { AreFreshVisitors registry.now 4 0 visitors.items }
 {
     let mut a = next_member(registry, &mut visitors)?;
@@ -202,7 +206,7 @@ fn a_race_for_an_epoch_and_a_record_that_is_taken_again(rt: HostRuntime) -> Resu
         clear: Scan::Clear { n: 1 },
         item: Some(X),
     };
-    assert_eq!(rt; both_rows(&registry, visitors), Some((race, reuse)));
+    assert_eq!(rt; race_and_reuse(&registry, visitors), Some((race, reuse)));
     Ok(())
 }
 
@@ -359,13 +363,17 @@ fn finish(registry: &Registry, w: &mut Worker) -> Result<(), AllocError>
         (λ m. (table m.token ≡ registry.now) × (m.calls < 2 ^ 30) × (m.room ≡ 4) × (depth m.token ≡ 0))
         (λ v. (table v.token ≡ registry.now) × (v.calls < 2 ^ 30) × (v.room ≡ 4))) }
 {
-    if let Some(Ok(mut m)) = w.seat.take() {
-        registry.scan(&mut m);
-        take(registry, &mut m, &mut w.labels.taken)?;
-        take(registry, &mut m, &mut w.labels.taken)?;
-        take(registry, &mut m, &mut w.labels.taken)?;
-        take(registry, &mut m, &mut w.labels.taken)?;
-        w.visitor = leave(registry, m).err();
+    match w.seat.take() {
+        Some(Ok(mut m)) => {
+            registry.scan(&mut m);
+            take(registry, &mut m, &mut w.labels.taken)?;
+            take(registry, &mut m, &mut w.labels.taken)?;
+            take(registry, &mut m, &mut w.labels.taken)?;
+            take(registry, &mut m, &mut w.labels.taken)?;
+            w.visitor = leave(registry, m).err();
+        }
+        Some(Err(v)) => w.visitor = Some(v),
+        None => {}
     }
     w.labels.taken.as_mut_slice().sort_unstable();
     Ok(())
@@ -389,6 +397,11 @@ fn four_threads_get_each_item_back_once(rt: HostRuntime) -> Result<(), Fail> {
     finish(&registry, &mut b)?;
     finish(&registry, &mut c)?;
     finish(&registry, &mut d)?;
+    let each_left = a.visitor.is_some()
+        && b.visitor.is_some()
+        && c.visitor.is_some()
+        && d.visitor.is_some();
+    assert!(rt; each_left);
     let (a, b, c, d) = (a.labels, b.labels, c.labels, d.labels);
     let none = a.retired.is_empty()
         && b.retired.is_empty()

@@ -1,5 +1,5 @@
 use Rattle.std.proofs.Common.{◌∙◌, arith}
-use Rattle.ck_registry.proofs.tests.both_rows.Goals as goal
+use Rattle.ck_registry.proofs.tests.race_and_reuse.Goals as goal
 
 pub reuse-requires-clause-tables : goal.reuse-requires-clause-tables
 reuse-requires-clause-tables c = (c.race-race.ensures.a.0 ∙ c.in_ok-a.ensures.member.0, c.race-race.ensures.b.0 ∙ c.in_ok-b.ensures.member.0, c.in_ok-c.ensures.visitor.0)
