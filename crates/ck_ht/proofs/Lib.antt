@@ -3,6 +3,8 @@ pub mod EventSteps
 pub mod PlacingEvents
 pub mod BoundingEvents
 pub mod LogEvents
+pub mod UpdateEvents
+pub mod Staying
 pub mod Settling
 pub mod Closing
 pub mod Sizes

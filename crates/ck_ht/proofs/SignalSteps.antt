@@ -28,6 +28,8 @@ use Rattle.ck_htlaw.specs.Table.{Layout, is_table_word}
 use Rattle.ck_htlaw.proofs.Tokens.{local_after_all, knows_next}
 use Rattle.ck_htread.specs.Reading.{LookTotals, totals_of}
 use Rattle.ck_htread.proofs.Telling.{record_of}
+use Rattle.ck_htwrite.specs.declared.state.HtState.{HtState}
+use Rattle.ck_htwrite.specs.State.{Ready}
 use Rattle.ck_ht.specs.Ends.{IsBetweenUpdates, IsPassReady}
 use Rattle.ck_ht.specs.Events.{Reading, Writing, reached_result, answer_events, reached_event, answered_event, update_events, told_event, logs_next, reader_event, writer_event, pass_events, hand_events}
 use Rattle.ck_ht.proofs.Closing.{is_first}
@@ -124,6 +126,10 @@ module _ (o : Origin (Signals HtClient)) where
       b.tally ∙ (ap (λ (m : ℕ). length (answers_after k o.words m (did w.token)).log) (writer_first w b)
       ∙ (ap (λ (first : ℕ). length (answers_after (layout_of first (inside o)) o.words 0 (did w.token)).log) (sym (plus_none (base_of o)))
       ∙ ap (λ (q : Origin (Signals HtClient)). length (answers_after (layout_of (base_of q) (inside q)) q.words 0 (did w.token)).log) (sym same)))
+
+  -- a writer with its lists is between two updates
+  pub between : {F : Type 0} (w : Writer (Signals HtClient) F) (s : HtState) → Ready with_signals o w s → IsBetweenUpdates o w
+  between w s r = record { is_idle = (r.lists.is_writer, r.lists.is, r.lists.idles); tally = r.tally; few = r.few }
 
   -- one signal of a writer between two updates
   writer_signal : {F : Type 0} (w v : Writer (Signals HtClient) F) (e : Entry) → IsBetweenUpdates o w → v ≡ record w { token = adding w.token (e ∷ []) } → is_table_word k e.step ≡ false → e.item ≡ []

@@ -9,10 +9,12 @@ use Rattle.ck_htlaw.specs.Reached.{with_signals}
 use Rattle.ck_htlaw.specs.Stages.{idle}
 use Rattle.ck_htlaw.specs.Table.{WriterState, LocalState, writer}
 use Rattle.ck_htread.specs.Reading.{IsBetweenLooks}
+use Rattle.ck_htwrite.specs.declared.state.HtState.{HtState}
 
--- What contracts see of a writer: its token's end
+-- What contracts see of a writer: its token's end, and its own lists
 pub record HtWriter (F : Type 0) : Type 0 where
   pub writer : Writer (Signals HtClient) F
+  pub state : HtState
 
 -- the writer is between two updates
 abbrev pub IsIdle : LocalState → Type 0

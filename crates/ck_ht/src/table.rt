@@ -1,10 +1,12 @@
 //! A table with a domain of its own.
 ghost use Rattle.std.specs.Prelude.{true, ◌≡◌, ℕ, ◌+◌, ◌-◌, ◌<◌, ◌≤◌, ◌^◌, Option, List, [], ◌∷◌, ◌++◌, length, vec_len, IfOk, MatchResult, All};
+ghost use Rattle.std.specs.Ordering.{nat_cmp};
+ghost use Rattle.ck_run.specs.declared.account.Step.{Step};
 ghost use Rattle.ck_run.specs.declared.account.Step.TheVariants.{Store};
 ghost use Rattle.ck_run.specs.Run.{call};
 ghost use Rattle.ck_run.specs.Tokens.{table, adding};
 ghost use Rattle.ck_run.specs.Ends.{fresh};
-ghost use Rattle.ck_epoch.specs.State.{depth, active_word, end as ends};
+ghost use Rattle.ck_epoch.specs.State.{depth, active_word, end as ends, state as epochs};
 ghost use Rattle.ck_epoch.specs.Calls.{rec_of, Begins};
 ghost use Rattle.ck_epoch.specs.Closing.{AreFreshPasses};
 ghost use Rattle.ck_epoch.specs.Lists.{Answers};
@@ -12,15 +14,24 @@ ghost use Rattle.ck_signal.specs.Signals.{readers};
 ghost use Rattle.ck_signal.specs.Words.{marks, reaches, notes, asks};
 ghost use Rattle.ck_signal.specs.Told.{applied_word_of, answered_word_of};
 ghost use Rattle.ck_history.specs.declared.event.ReaderEvent.TheVariants.{Answered, Reached};
-ghost use Rattle.ck_history.specs.declared.event.WriterEvent.TheVariants.{Told};
+ghost use Rattle.ck_history.specs.Map.{step};
+ghost use Rattle.ck_history.specs.declared.event.WriterEvent.TheVariants.{Updated, Told};
 ghost use Rattle.ck_history.specs.declared.log.Look.TheVariants.{Again};
+ghost use Rattle.ck_history.specs.declared.update.Update.TheVariants.{Del};
+ghost use Rattle.ck_htlaw.specs.Actions.{most, plan_now};
+ghost use Rattle.ck_htlaw.specs.Calls.{remove as removing};
 ghost use Rattle.ck_htlaw.specs.Client.{table as table_client, is_region, home_of};
+ghost use Rattle.ck_htlaw.specs.Host.{lies};
 ghost use Rattle.ck_htlaw.specs.Known.{knows};
 ghost use Rattle.ck_htlaw.specs.Law.{retries_of};
 ghost use Rattle.ck_htlaw.specs.Layout.{counters_of, table_words};
+ghost use Rattle.ck_htlaw.specs.Linearized.{map_after};
 ghost use Rattle.ck_htlaw.specs.Reached.{with_signals};
+ghost use Rattle.ck_htlaw.specs.Table.{WriterState};
 ghost use Rattle.ck_htread.specs.Answered.{HasAnswered};
 ghost use Rattle.ck_htread.specs.Reading.{Looks, look_result, answered_by, retries_by, totals_of};
+ghost use Rattle.ck_htwrite.specs.Updates.{RemoveSteps};
+ghost use Rattle.ck_htwrite.specs.Writes.{WriterIs, opened};
 ghost use Rattle.ck_ht.specs.Closed.{IsClosedTable};
 ghost use Rattle.ck_ht.specs.Ends.{IsPassReady};
 ghost use Rattle.ck_ht.specs.Events.{answer_events, pass_events, hand_events};
@@ -29,8 +40,9 @@ ghost use Rattle.ck_ht.specs.Room.{IsRoomFor};
 
 use crate::laws::settled_law;
 use ck_epoch::{Closed, Domain, Item, Pass, Writer};
-use ck_history::{Key, Look};
+use ck_history::{Key, Look, Reply};
 use ck_htlaw::HtClient;
+use ck_htwrite::HtState;
 use ck_signal::Signals;
 use ck_words::Back;
 use crossbeam_utils::Backoff;
@@ -41,21 +53,28 @@ use std::sync::Wait;
 /// A reader's token.
 pub type HtPass = Pass<Signals<HtClient>>;
 
-/// The writer's token.
+/// The writer's token, with its own lists of the table.
 #[derive(Drop)]
 pub struct HtWriter<F> {
     pub(crate) writer: Writer<Signals<HtClient>, F>,
+    pub(crate) state: HtState,
 }
 
 impl<F> Model for HtWriter<F> {
     ghost use Rattle.ck_run.specs.Tokens.{origin};
-    ghost use Rattle.ck_ht.specs.Ends.{HtWriter as WriterOf, IsBetweenUpdates};
+    ghost use Rattle.ck_htlaw.specs.Reached.{with_signals};
+    ghost use Rattle.ck_htwrite.specs.State.{Ready};
+    ghost use Rattle.std.specs.Coded.{codes};
+    ghost use Rattle.ck_htwrite.specs.contracts.state.HtState as lists;
+    ghost use Rattle.ck_ht.specs.Ends.{HtWriter as WriterOf};
 
     ghost Value = { WriterOf F };
 
-    ghost view = { λ w. record { writer = w.writer } };
+    ghost coded = { Prim.hlevel (codes, lists.the_row.coded) };
 
-    ghost invariant = { λ w. IsBetweenUpdates (origin w.writer.token) w.writer };
+    ghost view = { λ w. record { writer = w.writer; state = w.state } };
+
+    ghost invariant = { λ w. Ready with_signals (origin w.writer.token) w.writer w.state };
 }
 
 /// A hash table that threads share. Contracts see the table of its words.
@@ -128,6 +147,7 @@ impl Ht {
         requires handler { Answers (λ item. true) (λ item. home_of item) (F.pre handler) (F.post handler) }
         ensures client { IfOk result (λ r. r.0.origin.config.client.client ≡ record { seed = seed; arena_log = 23 }) }
         ensures writer { IfOk result (λ r. (r.1.writer.token ≡ fresh r.0 0) × (hand_events r.0.origin r.1.writer.token ≡ [])) }
+        ensures counted { IfOk result (λ r. (r.1.writer.calls ≡ 0) × (r.1.writer.handler ≡ handler)) }
         ensures passes { IfOk result (λ r. (vec_len r.2 ≡ readers) × AreFreshPasses r.0 1 r.2.items) }
         ensures made { IfOk result (λ r. All (λ p. table p.token ≡ r.0) r.2.items) }
         ensures ready { IfOk result (λ r. All (λ p. IsPassReady r.0.origin p) r.2.items) }
@@ -154,6 +174,7 @@ impl Ht {
         requires handler { Answers (λ item. true) (λ item. home_of item) (F.pre handler) (F.post handler) }
         ensures client { (log : ℕ) × IsRoomFor keys log × IfOk result (λ r. r.0.origin.config.client.client ≡ record { seed = seed; arena_log = log }) }
         ensures writer { IfOk result (λ r. (r.1.writer.token ≡ fresh r.0 0) × (hand_events r.0.origin r.1.writer.token ≡ [])) }
+        ensures counted { IfOk result (λ r. (r.1.writer.calls ≡ 0) × (r.1.writer.handler ≡ handler)) }
         ensures passes { IfOk result (λ r. (vec_len r.2 ≡ readers) × AreFreshPasses r.0 1 r.2.items) }
         ensures made { IfOk result (λ r. All (λ p. table p.token ≡ r.0) r.2.items) }
         ensures ready { IfOk result (λ r. All (λ p. IsPassReady r.0.origin p) r.2.items) }
@@ -173,19 +194,22 @@ impl Ht {
         readers: u64,
         handler: F,
     ) -> Result<(Ht, HtWriter<F>, Vec<HtPass>), AllocError>
+        requires most { client.arena_log ≤ 24 }
         requires small { table_words (counters_of client) ≤ 2 ^ 32 }
         requires readers { (1 ≤ readers) × (readers ≤ 64) }
         requires handler { Answers (λ item. is_region client item) (λ item. home_of item) (F.pre handler) (F.post handler) }
         ensures client { IfOk result (λ r. r.0.origin.config.client.client ≡ client) }
         ensures writer { IfOk result (λ r. (r.1.writer.token ≡ fresh r.0 0) × (hand_events r.0.origin r.1.writer.token ≡ [])) }
+        ensures counted { IfOk result (λ r. (r.1.writer.calls ≡ 0) × (r.1.writer.handler ≡ handler)) }
         ensures passes { IfOk result (λ r. (vec_len r.2 ≡ readers) × AreFreshPasses r.0 1 r.2.items) }
         ensures made { IfOk result (λ r. All (λ p. table p.token ≡ r.0) r.2.items) }
         ensures ready { IfOk result (λ r. All (λ p. IsPassReady r.0.origin p) r.2.items) }
         ensures events { IfOk result (λ r. All (λ p. pass_events r.0.origin p.token ≡ []) r.2.items) }
     {
+        let state = HtState::new(alloc, &client)?;
         let signals = Signals::new(client, readers);
         let (domain, writer, passes) = Domain::new(alloc, signals, readers, ROOM, handler)?;
-        Ok((Ht { domain }, HtWriter { writer }, passes))
+        Ok((Ht { domain }, HtWriter { writer, state }, passes))
     }
 
     /// The domain that the table stands in.
@@ -277,6 +301,21 @@ impl Ht {
         unreachable!()
     }
 
+    /// Removes the key, as `ck_ht_remove_spmc`, and answers the value that it had, or that it was missing.
+    pub fn remove<F>(&self, w: &mut HtWriter<F>, key: Key) -> Reply
+        requires table { table w.old.writer.token ≡ self.now }
+        requires calls { w.old.writer.calls < 2 ^ 40 }
+        ensures same { w.new.writer ≡ record w.old.writer { token = w.new.writer.token; calls = w.old.writer.calls + 1; tally = w.old.writer.tally + 1 } }
+        ensures table { table w.new.writer.token ≡ table w.old.writer.token }
+        ensures reply { result ≡ (step nat_cmp most (map_after (knows with_signals self.now.origin w.old.writer.token).log) (Del key)).1 }
+        ensures log { (knows with_signals self.now.origin w.new.writer.token).log ≡ (knows with_signals self.now.origin w.old.writer.token).log ++ record { update = Del key; reply = result } ∷ [] }
+        ensures steps { (p : WriterState) → WriterIs with_signals self.now.origin w.old.writer.token p → (ss : List Step) × RemoveSteps (lies with_signals self.now.origin) p (plan_now (lies with_signals self.now.origin) p key) ss × (w.new.writer.token ≡ adding w.old.writer.token (opened (removing ∷ key ∷ []) ss)) }
+        ensures events { hand_events self.now.origin w.new.writer.token ≡ hand_events self.now.origin w.old.writer.token ++ Updated (Del key) result ∷ [] }
+        ensures pending { (epochs w.new.writer.token).pending ≡ (epochs w.old.writer.token).pending }
+    {
+        ck_htwrite::remove(&self.domain, &mut w.writer, &mut w.state, key)
+    }
+
     /// Tells the readers how many updates the log has.
     pub fn mark<F>(&self, w: &mut HtWriter<F>)
         requires table { table w.old.writer.token ≡ self.now }
@@ -340,7 +379,7 @@ impl Ht {
         ck_htread::places_law::<Signals<HtClient>>();
         settled_law();
         let Ht { domain } = self;
-        let HtWriter { writer } = w;
+        let HtWriter { writer, .. } = w;
         domain.close(writer, passes)
     }
 }

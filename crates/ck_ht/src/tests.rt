@@ -1,6 +1,6 @@
 use crate::{Ht, home};
 use ck_epoch::Item;
-use ck_history::{Key, Look};
+use ck_history::{Key, Look, Reply};
 use std::test::Fail;
 
 #[test]
@@ -17,6 +17,9 @@ fn an_empty_table_has_no_key(rt: HostRuntime) -> Result<(), Fail> {
     table.mark(&mut writer);
     assert_eq!(rt; table.answered(&mut writer, 0), 2);
     assert_eq!(rt; table.reached(&mut pass, 1), Err(0));
+    assert_eq!(rt; table.remove(&mut writer, key), Reply::Missing);
+    table.mark(&mut writer);
+    assert_eq!(rt; table.reached(&mut pass, 1), Ok(()));
     Ok(())
 }
 
