@@ -1,5 +1,5 @@
 -- A rebuild: what the writer stores in a region that isn't published, and what holds of it meanwhile.
-use Rattle.std.specs.Prelude.{◌≡◌, ◌≢◌, ℕ, zero, suc, ◌+◌, ◌*◌, ◌^◌, ◌<◌, ◌≤◌, List, [], ◌∷◌, ◌++◌, length, slice_index}
+use Rattle.std.specs.Prelude.{◌≡◌, ◌≢◌, ℕ, zero, suc, ◌+◌, ◌*◌, ◌^◌, ◌<◌, ◌≤◌, ◌⊎◌, List, [], ◌∷◌, ◌++◌, length, slice_index}
 use Rattle.std.specs.Vec.{with_item}
 use Rattle.ck_run.specs.declared.account.Step.{Step}
 use Rattle.ck_run.specs.declared.account.Step.TheVariants.{Load, Store}
@@ -102,3 +102,7 @@ pub record Rebuilt (n : ℕ) (l : Layout) (a : Answers) (stage : Stage) (due : L
 -- in the new region, stores its root, and retires the old one
 abbrev pub rebuild_entries : Layout → List ℕ → ℕ → ℕ → List Step → ℕ → List Entry
 rebuild_entries l opens old root stores epoch = opened opens (Store (l.word root 0 0) 0 ∷ stores) ++ further (Store l.base root) ∷ handing [] (l.item old) (Load 0 epoch) ∷ []
+
+-- What a `tidy` does, by the tombstones that stand: it loads the root, or it rebuilds the map
+abbrev pub AreTidying : Layout → List ℕ → ℕ → ℕ → ℕ → List Entry → Type 0
+AreTidying l opens tombstones old root es = ((tombstones ≡ 0) × (n : ℕ) × (es ≡ entry opens (Load l.base n) ∷ [])) ⊎ ((0 < tombstones) × (stores : List Step) × (epoch : ℕ) × (es ≡ rebuild_entries l opens old root stores epoch))

@@ -27,26 +27,26 @@ returns-clause-log g c =
     let h = host g.D.Client.meaning g.D.Within.place g.D.Within.part in let o = c.args.domain.now.origin in let n = counters_in h o in let place = h.place o.config.client in let w = c.args.writer.now in let s = c.args.state.now in let ready = c.requires.ready in let r = ready.lists in
     ap (λ v. (knows h o v.token).log) c.set_tally.ensures ∙ c.in_ok-tidy_map.ensures.over.at.log
 
-pub returns-clause-same : goal.returns-clause-same
-returns-clause-same g c =
-    let steps = c.in_ok-tidy_map.ensures.steps in let told : c.tally-updates-2.result ≡ c.args.writer.now.tally = c.tally-updates-2.ensures.tally ∙ ap (λ v. v.tally) steps.3 in
-    (steps.0, steps.1, steps.2, c.set_tally.ensures ∙ (λ i. record (steps.3 i) { calls = (steps.3 i).calls + 1; tally = told i + 1 }))
+pub returns-clause-steps : goal.returns-clause-steps
+returns-clause-steps g c =
+    let steps = c.in_ok-tidy_map.ensures.steps in let told : c.tally-updates-2.result ≡ c.args.writer.now.tally = c.tally-updates-2.ensures.tally ∙ ap (λ v. v.tally) steps.4 in
+    (steps.0, steps.1, steps.2, steps.3, c.set_tally.ensures ∙ (λ i. record (steps.4 i) { calls = (steps.4 i).calls + 1; tally = told i + 1 }))
 
 pub returns-clause-calls : goal.returns-clause-calls
 returns-clause-calls g c =
     let steps = c.in_ok-tidy_map.ensures.steps in let k : ℕ = steps.1 in let le : k ≤ 1 = steps.2 in
     let one : c.set_tally.new.self.calls ≡ c.tidy_map.new.writer.calls + 1 = ap (λ v. v.calls) c.set_tally.ensures in
-    let two : c.tidy_map.new.writer.calls ≡ c.args.writer.now.calls + k = ap (λ v. v.calls) steps.3 in omega arith
+    let two : c.tidy_map.new.writer.calls ≡ c.args.writer.now.calls + k = ap (λ v. v.calls) steps.4 in omega arith
 
 pub returns-clause-table : goal.returns-clause-table
-returns-clause-table g c = ap (λ v. table v.token) c.set_tally.ensures ∙ ap (λ v. table v.token) c.in_ok-tidy_map.ensures.steps.3
+returns-clause-table g c = ap (λ v. table v.token) c.set_tally.ensures ∙ ap (λ v. table v.token) c.in_ok-tidy_map.ensures.steps.4
 
 pub returns-clause-ready : goal.returns-clause-ready
 returns-clause-ready g c =
     let h = host g.D.Client.meaning g.D.Within.place g.D.Within.part in let o = c.args.domain.now.origin in let n = counters_in h o in let place = h.place o.config.client in let w = c.args.writer.now in let s = c.args.state.now in let ready = c.requires.ready in let r = ready.lists in
     let u = c.tidy_map.new.writer in let over = c.in_ok-tidy_map.ensures.over in let steps = c.in_ok-tidy_map.ensures.steps in
     let k : ℕ = steps.1 in
-    let tally : u.tally ≡ w.tally = ap (λ v. v.tally) steps.3 in let calls : u.calls ≡ w.calls + k = ap (λ v. v.calls) steps.3 in
+    let tally : u.tally ≡ w.tally = ap (λ v. v.tally) steps.4 in let calls : u.calls ≡ w.calls + k = ap (λ v. v.calls) steps.4 in
     let more : length (knows h o u.token).log ≡ length (knows h o w.token).log + 1 = ap length over.at.log ∙ length-append (knows h o w.token).log _ in
     let before : w.tally ≡ length (knows h o w.token).log = ready.tally in let few : w.tally ≤ w.calls = ready.few in let told : c.tally-updates-2.result ≡ u.tally = c.tally-updates-2.ensures.tally in
     subst (λ v. Ready h o v c.tidy_map.new.state) (sym c.set_tally.ensures) record {

@@ -1,4 +1,4 @@
-use Rattle.std.proofs.Common.{◌≡◌, ◌≢◌, ℕ, ◌^◌, inr, List, [], ◌∷◌, ◌++◌, rules, refl, sym, ap, ◌∙◌, subst, arith}
+use Rattle.std.proofs.Common.{◌≡◌, ◌≢◌, ℕ, ◌^◌, inl, inr, List, [], ◌∷◌, ◌++◌, rules, refl, sym, ap, ◌∙◌, subst, arith}
 use Rattle.ck_epoch.specs.declared.item.Retired.{Retired}
 use Rattle.ck_epoch.specs.State.{base_of, state}
 use Rattle.ck_history.specs.declared.log.LogEntry.{LogEntry}
@@ -28,7 +28,7 @@ pub returns-then-state-eq0-clause-none : goal.returns-then-state-eq0-clause-none
 returns-then-state-eq0-clause-none g c = ((λ e. absurd (cc)), (λ z. absurd (let a = z.0 in let b = c.if-state-eq0.true in omega arith)))
 
 pub returns-then-state-eq0-clause-steps : goal.returns-then-state-eq0-clause-steps
-returns-then-state-eq0-clause-steps g c = (_, 0, omega arith, not_counted c.args.writer.now c.ask_root.new.writer _ c.ask_root.ensures.step.made)
+returns-then-state-eq0-clause-steps g c = (_, 0, omega arith, inl (c.if-state-eq0.true, c.ask_root.result, refl), not_counted c.args.writer.now c.ask_root.new.writer _ c.ask_root.ensures.step.made)
 
 pub returns-then-state-eq0-clause-over : goal.returns-then-state-eq0-clause-over
 returns-then-state-eq0-clause-over g c =
@@ -76,7 +76,7 @@ pub returns-clause-none : goal.returns-clause-none
 returns-clause-none g c = ((λ e. absurd (cc)), (λ z. c.in_ok-rebuild.ensures.none.1 z.1))
 
 pub returns-clause-steps : goal.returns-clause-steps
-returns-clause-steps g c = (_, 1, omega arith, c.in_ok-rebuild.ensures.steps.2)
+returns-clause-steps g c = let made = c.in_ok-rebuild.ensures.steps in (_, 1, omega arith, inr ((let some = c.if-state-eq0.false in omega arith), made.1, made.0, refl), made.2)
 
 pub returns-clause-over : goal.returns-clause-over
 returns-clause-over g c =
