@@ -39,6 +39,10 @@ pub record IsKept (counters place root : ℕ) (items : List Retired) (a : Arena)
   pub once : AreOnce counters place items
   pub only : (p : Piece) → IsPieceOut a p → (p ≡ region_piece root) ⊎ ((k : Retired) × Contains items k × (retired_piece place k ≡ p))
 
+-- all of these are items of the table
+abbrev pub AreTableItems : ℕ → ℕ → List Retired → Type 0
+AreTableItems counters place items = All (λ (k : Retired). IsTableItem counters place k.item) items
+
 -- a region of the table more isn't given back
 abbrev pub AddsRegion : ℕ → ℕ → List Retired → List Retired → Type 0
 AddsRegion counters place before after = (k : Retired) × IsTableItem counters place k.item × (after ≡ before ++ k ∷ [])

@@ -1,7 +1,7 @@
 //! The writer's own lists.
 ghost use Rattle.std.specs.Prelude.{◌≡◌, ◌≢◌, ◌*◌, ◌+◌, ◌-◌, ◌≤◌, ◌^◌, ◌↔◌, IfOk, IfErr, IsErr, [], length, replicate};
 ghost use Rattle.std.specs.FinSet as set;
-ghost use Rattle.ck_words.specs.Buddies.{piece, with_pieces_out, free_words, IsPieceOut, IsFree};
+ghost use Rattle.ck_words.specs.Buddies.{piece, with_pieces_out, free_words, ArePiecesApart, IsPieceOut, IsFree};
 ghost use Rattle.ck_htlaw.specs.Layout.{arena, arena_words, counters_of, log_of};
 ghost use Rattle.ck_htlaw.specs.Known.{IsRoot};
 ghost use Rattle.ck_htwrite.specs.Arena.{region_piece, IsArenaOfTable, IsKept, HasNoneFree};
@@ -113,7 +113,8 @@ impl HtState {
 
     /// How many words of the arena are free.
     pub fn free_words(&self) -> u64
-        ensures { result ≡ free_words self.now.arena }
+        ensures count { result ≡ free_words self.now.arena }
+        ensures apart { ArePiecesApart self.now.arena }
     {
         self.arena.free()
     }
