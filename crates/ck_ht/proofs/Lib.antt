@@ -5,6 +5,8 @@ pub mod BoundingEvents
 pub mod LogEvents
 pub mod UpdateEvents
 pub mod Staying
+pub mod Backs
+pub mod Waits
 pub mod Settling
 pub mod Closing
 pub mod Sizes

@@ -24,7 +24,7 @@ of_list : (i : ℕ) (xs : List Retired) → IsPermutation xs (on i xs ++ off i x
 of_list i xs = IsPermutation-filter_both (is_on i) (λ (r : Retired). not (is_on i r)) (λ r. refl) xs
 
 -- list by list
-listed : (xs : List Retired) → IsPermutation xs (by_list xs)
+pub listed : (xs : List Retired) → IsPermutation xs (by_list xs)
 listed xs =
     let o0 = off 0 xs in let o1 = off 1 o0 in let o2 = off 2 o1 in
     let one : on 1 o0 ≡ on 1 xs = on-off 1 0 (λ e. omega arith) xs in
