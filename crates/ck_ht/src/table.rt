@@ -6,6 +6,7 @@ ghost use Rattle.ck_run.specs.declared.account.Step.TheVariants.{Store};
 ghost use Rattle.ck_run.specs.Run.{call};
 ghost use Rattle.ck_run.specs.Tokens.{table, adding};
 ghost use Rattle.ck_run.specs.Ends.{fresh};
+ghost use Rattle.ck_words.specs.Buddies.{free_words};
 ghost use Rattle.ck_epoch.specs.State.{depth, active_word, barrier as bars, end as ends, records_of, state as epochs};
 ghost use Rattle.ck_epoch.specs.Rounds.{Rounds};
 ghost use Rattle.ck_epoch.specs.Calls.{rec_of, Begins};
@@ -25,7 +26,7 @@ ghost use Rattle.ck_htlaw.specs.Client.{table as table_client, is_region, home_o
 ghost use Rattle.ck_htlaw.specs.Host.{lies};
 ghost use Rattle.ck_htlaw.specs.Known.{knows};
 ghost use Rattle.ck_htlaw.specs.Law.{retries_of};
-ghost use Rattle.ck_htlaw.specs.Layout.{counters_of, table_words};
+ghost use Rattle.ck_htlaw.specs.Layout.{counters_of, log_of, table_words};
 ghost use Rattle.ck_htlaw.specs.Linearized.{map_after};
 ghost use Rattle.ck_htlaw.specs.Reached.{with_signals};
 ghost use Rattle.ck_htlaw.specs.Table.{WriterState};
@@ -331,6 +332,20 @@ impl Ht {
         ensures count { result ≡ length (epochs w.old.writer.token).pending }
     {
         give_all(&self.domain, rt, &mut w.writer, &mut w.state)
+    }
+
+    /// How many slots the map has now.
+    pub fn slots<F>(&self, w: &HtWriter<F>) -> u64
+        ensures { result ≡ 2 ^ log_of w.now.state.root }
+    {
+        w.state.slots()
+    }
+
+    /// How many words of the arena are free.
+    pub fn free_words<F>(&self, w: &HtWriter<F>) -> u64
+        ensures { result ≡ free_words w.now.state.arena }
+    {
+        w.state.free_words()
     }
 
     /// Tells the readers how many updates the log has.
