@@ -27,9 +27,9 @@ invariant_of-result-2 g c =
       given = ap (λ w. w.waiting) d.ensures.writer;
       room = ap (λ w. w.room) d.ensures.writer;
       ready = (opened_ready with_signals is_within d.domain d.ensures.words.1 d.writer is (ap (λ w. w.waiting) d.ensures.writer) (ap (λ w. w.tally) d.ensures.writer) s.state
-    (subst (λ (n : ℕ). IsShaped n s.state) many s.ensures.shape) (ap (λ x. x.root) s.ensures.state ∙ ap (λ (n : ℕ). 32 * arena n + 3) many) (ap (λ x. x.keys) s.ensures.state) (ap (λ x. x.tombstones) s.ensures.state)
-    s.ensures.words (s.ensures.counters ∙ ap (λ (n : ℕ). replicate n 0) many)
-    (subst (λ (n : ℕ). (place : ℕ) → IsKept n place s.state.root [] s.state.arena) many s.ensures.arena));
+          (subst (λ (n : ℕ). IsShaped n s.state) many s.ensures.shape) (ap (λ x. x.root) s.ensures.state ∙ ap (λ (n : ℕ). 32 * arena n + 3) many) (ap (λ x. x.keys) s.ensures.state) (ap (λ x. x.tombstones) s.ensures.state)
+          s.ensures.words (s.ensures.counters ∙ ap (λ (n : ℕ). replicate n 0) many)
+          (subst (λ (n : ℕ). (place : ℕ) → IsKept n place s.state.root [] s.state.arena) many s.ensures.arena));
     }
 
 pub returns-clause-made : goal.returns-clause-made
