@@ -7,6 +7,7 @@ pub mod UpdateEvents
 pub mod Staying
 pub mod Backs
 pub mod Waits
+pub mod Few
 pub mod Settling
 pub mod Closing
 pub mod Sizes
