@@ -1,28 +1,27 @@
 -- From the generated files to the summary of their run.
-use Rattle.std.proofs.Common.{◌≡◌, ℕ, ◌+◌, ◌≤◌, max, Bool, true, false, List, [], ◌∷◌, length, map, Option, Some, None, Vec, refl, ap, sym, subst, ◌∙◌, arith, decimal}
+use Rattle.std.proofs.Common.{◌≡◌, ℕ, ◌+◌, ◌≤◌, max, Bool, true, false, List, [], ◌∷◌, length, map, Option, None, Vec, refl, ap, sym, subst, ◌∙◌, arith}
 use Rattle.std.specs.Prelude.{find, nat_lt, slice_index_or}
-use Rattle.std.specs.Option.{option_map, option_or}
 use Rattle.std.specs.Ordering.{nat_cmp}
 use Rattle.std.specs.declared.alloc.Global.{Global}
 use Rattle.std.proofs.lemmas.Bool.Decides.{nat_tests}
 use Rattle.std.proofs.lemmas.List.{length-map}
 use Rattle.std.proofs.lemmas.List.FromFn.{length-map-range_with_len}
-use Rattle.ck_history.specs.Legal.{Query, ArePlaced, AreLegal, AllLegal}
-use Rattle.ck_history.specs.Map.{after, answer_after, replies}
+use Rattle.ck_history.specs.Legal.{ArePlaced, AllLegal}
+use Rattle.ck_history.specs.Map.{answer_after, replies}
 use Rattle.ck_history.specs.declared.update.Reply.{Reply}
 use Rattle.ck_history.specs.declared.update.Update.{Update}
 use Rattle.ck_script.specs.declared.line.Numbered.{Numbered}
 use Rattle.ck_script.specs.declared.line.UpLine.{UpLine}
-use Rattle.ck_script.specs.declared.line.UpLine.TheVariants.{Call, Hold}
+use Rattle.ck_script.specs.declared.line.UpLine.TheVariants.{Call}
 use Rattle.ck_script.specs.declared.line.AskLine.{AskLine}
-use Rattle.ck_script.specs.declared.line.AskLine.TheVariants.{Ask, Wait}
-use Rattle.ck_script.specs.Checks.{range_fault, is_hold_beyond, is_wait_beyond, first_fault, first_wait_beyond}
+use Rattle.ck_script.specs.declared.line.AskLine.TheVariants.{Ask}
+use Rattle.ck_script.specs.Checks.{range_fault, is_hold_beyond, is_wait_beyond}
 use Rattle.ck_script.specs.Script.{said_of, updates, holds, queries, bounded, Script, script_of, HoldLine}
 use Rattle.ck_gen.specs.Generated.{generated_updates, generated_keys, lines_of_updates, lines_of_queries, numbered}
 use Rattle.ck_gen.specs.Summaries.{summary_of, summary_lines}
 use Rattle.ck_gen.proofs.Lawful.{said_numbered}
 use Rattle.ck_pool.specs.declared.map_results.MapResults.{MapResults}
-use Rattle.ck_pool.specs.Served.{lines_of, line_total}
+use Rattle.ck_pool.specs.Served.{line_total}
 use Rattle.ck_pool.specs.Results.{job_script, AreMapResults}
 use Rattle.ck_lookup.specs.Headline.{capacity}
 use Rattle.ck_lookup.specs.Making.{made_text}

@@ -1,5 +1,5 @@
 -- From what each part of a judgment says to why its run ends as it does.
-use Rattle.std.proofs.Common.{◌≡◌, ◌↔◌, ℕ, zero, suc, ◌+◌, ◌-◌, ◌<◌, ◌≤◌, Bool, true, false, true≢false, IsTrue, List, [], ◌∷◌, ◌++◌, length, map, take, drop, get_or, Option, Some, None, Vec, refl, ap, subst, sym, ◌∙◌, ◌⊎◌, inl, inr, arith, decimal}
+use Rattle.std.proofs.Common.{◌≡◌, ℕ, zero, suc, ◌+◌, ◌-◌, ◌≤◌, true, true≢false, List, [], ◌∷◌, ◌++◌, length, map, take, drop, get_or, Option, Some, Vec, refl, ap, subst, sym, ◌∙◌, inl, inr, arith, decimal}
 use Rattle.std.specs.Ordering.{nat_cmp}
 use Rattle.std.specs.declared.alloc.Global.{Global}
 use Rattle.ck_history.specs.Key.{IsKey}
@@ -7,17 +7,19 @@ use Rattle.ck_history.specs.declared.update.Update.{Update}
 use Rattle.ck_script.specs.declared.line.Numbered.{Numbered}
 use Rattle.ck_script.specs.declared.line.UpLine.{UpLine}
 use Rattle.ck_script.specs.declared.line.AskLine.{AskLine}
-use Rattle.ck_script.specs.Script.{said_of, Script, script_of}
-use Rattle.ck_report.specs.Reports.{Parts}
+use Rattle.ck_script.specs.Script.{said_of, script_of}
+use Rattle.ck_script.specs.Keys.{one_table_key, table_key_one_word}
+use Rattle.ck_report.proofs.Gathering.{all_last}
+use Rattle.ck_report.proofs.OneReading.{one_reading}
 use Rattle.ck_judge.specs.Verdict.{IsLegalReport, is_legal}
 use Rattle.ck_judge.specs.declared.verdict.Verdict.{Verdict}
 use Rattle.ck_command.specs.Words.{JudgeCommand, Command, Judge, judged_names}
 use Rattle.ck_lookup.specs.declared.outcome.Outcome.{Outcome}
 use Rattle.ck_lookup.specs.declared.outcome.Outcome.TheVariants.{Done, Usage, ReadFault, BadScript, TooLarge, WriteFault, BadReport, Illegal, NoMemory}
 use Rattle.ck_lookup.specs.Headline.{capacity}
-use Rattle.ck_lookup.specs.Limits.{AreWithin}
+use Rattle.ck_lookup.specs.Limits.{AreWithin, most_bytes}
 use Rattle.ck_lookup.specs.Causes.{Tells, AreSaid, AreRead, Outside, FetchedAll, PutNothing, IsDoneOrNoMemory}
-use Rattle.ck_lookup.specs.Judging.{judged_files, verdict_text, ReadsAs, IsJudged, IsLegalOf, HasFiles, HasVerdict, EndsJudged, IsClearJudged, script_told, IsLegalText, IsIllegalText, IsIllegalOrNoMemory}
+use Rattle.ck_lookup.specs.Judging.{judged_files, IsJudged, IsLegalOf, HasFiles, HasVerdict, EndsJudged, IsClearJudged, IsIllegalOrNoMemory}
 use Rattle.ck_lookup.specs.Running.{IsRefusedFetch, IsRefusedScript, IsNoReport, IsNotJudged, HasNoVerdict, PutsVerdict}
 use Rattle.ck_lookup.proofs.Told.{read_told}
 use Rattle.ck_lookup.proofs.Ending.{one_script, no_bad_script, none_too_large}
@@ -193,33 +195,30 @@ module _ (o : Outside) (ns : List (List ℕ)) (u : List ℕ) (qs : List (List �
       legal_of u qs r verdict.0 (told_holds o.held ns _ u qs r verdict.1 told) verdict.2
 
   module _ (clear : IsClearJudged o ns u qs r) where
-    script_same : (verdict : Verdict) (j : IsJudged u qs r verdict) → script_of (said_of j.ups) (map said_of j.asks) ≡ script_told o ns clear
-    script_same verdict j =
-        let same = one_script u qs j.ups clear.ups j.asks clear.asks j.said.updates_said clear.said.updates_said j.said.queries_said clear.said.queries_said in
-        ap (λ ups. script_of (said_of ups) (map said_of j.asks)) same.0 ∙ ap (λ asks. script_of (said_of clear.ups) (map said_of asks)) same.1
-
     here : (Holds : List ℕ → List (List ℕ) → List ℕ → Type 0) → HasFiles o.held ns Holds → Holds u qs r
     here Holds has = told_holds o.held ns Holds u qs r has clear.told
 
-    -- a verdict is that on the report
-    is_done : (verdict : Verdict) → IsJudged u qs r verdict → is_legal verdict ≡ true → IsIllegalText (script_told o ns clear) r → ⊥
-    is_done verdict j legal illegal = illegal j.report j.reads (subst (λ s. IsLegalReport nat_cmp capacity s j.report) (script_same verdict j) (j.exact.0 legal))
-
-    is_illegal : (verdict : Verdict) → IsJudged u qs r verdict → is_legal verdict ≡ false → IsLegalText (script_told o ns clear) r → ⊥
-    is_illegal verdict j not_legal legal =
-        let exact : IsTrue (is_legal verdict) = j.exact.1 (subst (λ s. IsLegalReport nat_cmp capacity s j.report) (sym (script_same verdict j)) (legal j.report j.reads)) in
-        true≢false (sym exact ∙ not_legal)
+    -- the report has one reading, so a verdict is that on whichever is legal
+    told_legal : (verdict : Verdict) → IsJudged u qs r verdict → IsLegalOf u qs r → is_legal verdict ≡ true
+    told_legal verdict j could =
+        let meant = could.meant in
+        let short = all_last (λ bytes. length bytes ≤ most_bytes) qs r clear.within.short.1 in
+        let same = one_script u qs meant.ups j.ups meant.asks j.asks meant.updates_said j.said.updates_said meant.queries_said j.said.queries_said in
+        let script : could.script ≡ script_of (said_of j.ups) (map said_of j.asks) =
+        meant.asked ∙ (ap (λ ups. script_of (said_of ups) (map said_of meant.asks)) same.0 ∙ ap (λ asks. script_of (said_of j.ups) (map said_of asks)) same.1) in
+        let report = one_reading IsKey decimal nat_cmp one_table_key table_key_one_word r could.report j.report (omega (arith, short)) could.reads j.reads in
+        j.exact.1 (subst (IsLegalReport nat_cmp capacity (script_of (said_of j.ups) (map said_of j.asks))) report (subst (λ s. IsLegalReport nat_cmp capacity s could.report) script could.legal))
 
     -- where nothing stands against a verdict, the run tells it or finds no memory
     pub complete_judged : (outcome : Outcome) → EndsJudged o ns outcome
-        → (IsLegalText (script_told o ns clear) r → IsDoneOrNoMemory outcome) × (IsIllegalText (script_told o ns clear) r → IsIllegalOrNoMemory outcome)
+        → (IsLegalOf u qs r → IsDoneOrNoMemory outcome) × ((IsLegalOf u qs r → ⊥) → IsIllegalOrNoMemory outcome)
     complete_judged Done ends =
         let verdict = ends.1 in
-        (λ legal. inl refl, λ illegal. absurd (is_done verdict.0 (here _ verdict.1) verdict.2 illegal))
+        (λ could. inl refl, λ never. absurd (never (legal_of u qs r verdict.0 (here _ verdict.1) verdict.2)))
     complete_judged Illegal ends =
         let verdict = ends.1 in
-        (λ legal. absurd (is_illegal verdict.0 (here _ verdict.1) verdict.2 legal), λ illegal. inl refl)
-    complete_judged NoMemory ends = (λ legal. inr refl, λ illegal. inr refl)
+        (λ could. absurd (true≢false (sym (told_legal verdict.0 (here _ verdict.1) could) ∙ verdict.2)), λ never. inl refl)
+    complete_judged NoMemory ends = (λ could. inr refl, λ never. inr refl)
     complete_judged Usage ends = absurd ends
     complete_judged WriteFault ends = absurd (clear.written ends.1)
     complete_judged (ReadFault file) ends = absurd (clear.read ends.0.name ends.0.rose)

@@ -107,18 +107,6 @@ module _ (o : Outside) (names : List (List ℕ)) where
     pub read : (name : List ℕ) → Rose (o.shelf_before name) (o.shelf_after name) → ⊥
     pub written : Rose o.sink_before o.sink_after → ⊥
 
-  -- what the scripts ask for
-  abbrev pub script_told : {u : List ℕ} {qs : List (List ℕ)} {r : List ℕ} → IsClearJudged u qs r → Script ℕ
-  script_told clear = script_of (said_of clear.ups) (map said_of clear.asks)
-
--- the text has no parts but legal ones
-abbrev pub IsLegalText : Script ℕ → List ℕ → Type 0
-IsLegalText script report_file = (report : Parts ℕ) → ReadsAs report_file report → IsLegalReport nat_cmp capacity script report
-
--- it has none that are legal
-abbrev pub IsIllegalText : Script ℕ → List ℕ → Type 0
-IsIllegalText script report_file = (report : Parts ℕ) → ReadsAs report_file report → IsLegalReport nat_cmp capacity script report → ⊥
-
 -- the outcome of a report that isn't legal, or want of memory
 abbrev pub IsIllegalOrNoMemory : Outcome → Type 0
 IsIllegalOrNoMemory outcome = (outcome ≡ Illegal) ⊎ (outcome ≡ NoMemory)

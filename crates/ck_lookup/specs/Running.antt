@@ -10,13 +10,11 @@ use Rattle.ck_history.specs.declared.update.Update.{Update}
 use Rattle.ck_script.specs.declared.line.Numbered.{Numbered}
 use Rattle.ck_script.specs.declared.line.UpLine.{UpLine}
 use Rattle.ck_script.specs.declared.line.AskLine.{AskLine}
-use Rattle.ck_script.specs.declared.line.AskLine.TheVariants.{Ask, Wait}
 use Rattle.ck_script.specs.declared.fault.ScriptError.{ScriptError}
 use Rattle.ck_script.specs.declared.fault.ScriptError.TheVariants.{Fault, Memory}
 use Rattle.ck_script.specs.declared.fault.ScriptFault.{ScriptFault}
 use Rattle.ck_script.specs.Checks.{range_fault}
 use Rattle.ck_script.specs.Script.{said_of, holds, Script}
-use Rattle.ck_report.specs.declared.asked.Asked.{Asked}
 use Rattle.ck_report.specs.declared.put.PutError.{PutError}
 use Rattle.ck_report.specs.declared.put.PutError.TheVariants.{Failed}
 use Rattle.ck_report.specs.declared.put.PutError.TheVariants as put

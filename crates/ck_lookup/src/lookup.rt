@@ -6,7 +6,7 @@ ghost use Rattle.ck_command.specs.Words.{TableCommand, JudgeCommand, Table, Make
 ghost use Rattle.ck_lookup.specs.Headline.{IsReportOf};
 ghost use Rattle.ck_lookup.specs.Causes.{Tells, AreAccepted, outside, MayEndWith, IsClear, IsDoneOrNoMemory};
 ghost use Rattle.ck_lookup.specs.Making.{made_text, PutsText};
-ghost use Rattle.ck_lookup.specs.Judging.{IsLegalOf, EndsJudged, IsClearJudged, script_told, IsLegalText, IsIllegalText, IsIllegalOrNoMemory};
+ghost use Rattle.ck_lookup.specs.Judging.{IsLegalOf, EndsJudged, IsClearJudged, IsIllegalOrNoMemory};
 
 use crate::judging::run_judge;
 use crate::making::run_make;
@@ -79,12 +79,12 @@ pub fn run<R: Threads + Wait + Sync, S: Shelf, K: Sink, G: Gate + Sync>(
         → EndsJudged (outside (S.held shelf.old) (S.faults shelf.old) (S.faults shelf.new) (K.taken sink.old) (K.taken sink.new) (K.faults sink.old) (K.faults sink.new)) (judged_names c) result }
 
     // Lawful scripts, a report, and no fault of shelf or sink give the verdict, unless memory is wanting: the run is done
-    // where the report is legal, and ends as `Illegal` where it isn't.
+    // where the report could have come from the scripts, and ends as `Illegal` where it couldn't.
     ensures complete_judged { (c : JudgeCommand) (update_file : List ℕ) (query_files : List (List ℕ)) (report_file : List ℕ)
         → command_of (map string_bytes words.now) ≡ Some (Judge c)
-        → (clear : IsClearJudged (outside (S.held shelf.old) (S.faults shelf.old) (S.faults shelf.new) (K.taken sink.old) (K.taken sink.new) (K.faults sink.old) (K.faults sink.new)) (judged_names c) update_file query_files report_file)
-        → (IsLegalText (script_told (outside (S.held shelf.old) (S.faults shelf.old) (S.faults shelf.new) (K.taken sink.old) (K.taken sink.new) (K.faults sink.old) (K.faults sink.new)) (judged_names c) clear) report_file → IsDoneOrNoMemory result)
-        × (IsIllegalText (script_told (outside (S.held shelf.old) (S.faults shelf.old) (S.faults shelf.new) (K.taken sink.old) (K.taken sink.new) (K.faults sink.old) (K.faults sink.new)) (judged_names c) clear) report_file → IsIllegalOrNoMemory result) }
+        → IsClearJudged (outside (S.held shelf.old) (S.faults shelf.old) (S.faults shelf.new) (K.taken sink.old) (K.taken sink.new) (K.faults sink.old) (K.faults sink.new)) (judged_names c) update_file query_files report_file
+        → (IsLegalOf update_file query_files report_file → IsDoneOrNoMemory result)
+        × ((IsLegalOf update_file query_files report_file → ⊥) → IsIllegalOrNoMemory result) }
 
     // The shelf holds what it held, and no count of faults falls.
     ensures held { S.held shelf.new ≡ S.held shelf.old }

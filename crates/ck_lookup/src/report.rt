@@ -53,8 +53,13 @@ fn job_of_files<R: Threads + Sync>(
     match files {
         [] => unreachable!(),
         [update_file, query_files @ ..] => {
-            let Scripts { ups, asks } =
-                read_scripts_by(rt, alloc, tasks, update_file, query_files)?;
+            let Scripts { ups, asks } = read_scripts_by(
+                rt,
+                alloc,
+                tasks,
+                update_file,
+                query_files,
+            )?;
             Ok(Job { ups, asks })
         }
     }

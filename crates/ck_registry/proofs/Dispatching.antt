@@ -1,11 +1,11 @@
 -- What a call that retires or dispatches leaves of the items of a member.
-use Rattle.std.proofs.Common.{◌≡◌, ℕ, ◌+◌, ◌-◌, ◌%◌, ◌<◌, ◌≤◌, ◌^◌, inl, List, [], ◌∷◌, ◌++◌, length, length-append, append_assoc, refl, sym, ap, ◌∙◌, subst, arith}
+use Rattle.std.proofs.Common.{◌≡◌, ℕ, ◌+◌, ◌<◌, ◌^◌, inl, List, [], ◌∷◌, ◌++◌, length, length-append, append_assoc, refl, sym, ap, ◌∙◌, subst, arith}
 use Rattle.std.proofs.lemmas.List.{map-append, length-map}
 use Rattle.ck_run.specs.declared.account.Step.TheVariants.{Load}
 use Rattle.ck_run.specs.declared.account.Entry.{Entry}
 use Rattle.ck_run.specs.Run.{handing}
 use Rattle.ck_run.specs.Machine.{follows_of}
-use Rattle.ck_run.specs.Tokens.{number, origin, MayMake}
+use Rattle.ck_run.specs.Tokens.{origin, MayMake}
 use Rattle.ck_epoch.specs.declared.item.Item.{Item}
 use Rattle.ck_epoch.specs.declared.item.Retired.{Retired}
 use Rattle.ck_epoch.specs.State.{Retirement, retirement, queue, on_list, off_list, list_by_list}

@@ -13,3 +13,5 @@ mod Scanned
 mod Advancing
 mod FirstWords
 mod Parting
+pub mod Visitors
+mod Seats

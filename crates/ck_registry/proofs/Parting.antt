@@ -1,6 +1,6 @@
 -- The visitors at the beginning and at the end.
-use Rattle.std.proofs.Common.{◌≡◌, ◌≢◌, ℕ, zero, suc, ◌+◌, ◌<◌, ◌≤◌, List, [], ◌∷◌, ◌++◌, map, length, length-append, drop, get_or, All, refl, sym, ap, ◌∙◌, subst, arith}
-use Rattle.std.proofs.lemmas.List.Elements.{All-nil, All-cons}
+use Rattle.std.proofs.Common.{◌≡◌, ℕ, ◌+◌, ◌<◌, ◌≤◌, List, [], ◌∷◌, ◌++◌, map, length, length-append, drop, get_or, All, sym, ap, ◌∙◌, subst, arith}
+use Rattle.std.proofs.lemmas.List.Elements.{All-cons}
 use Rattle.ck_run.specs.declared.account.View.{View}
 use Rattle.ck_run.specs.Run.{account}
 use Rattle.ck_run.specs.Rule.{IsRun, IsClosed}
@@ -10,8 +10,7 @@ use Rattle.ck_run.specs.Ends.{EachFrom, AreTied, fresh, joined_all}
 use Rattle.ck_run.proofs.Lists.{All-weaker, All-both, All-unmap}
 use Rattle.ck_run.proofs.Moments.{is_new}
 use Rattle.ck_run.proofs.Ends.{tied_map, are_closed}
-use Rattle.ck_epoch.specs.declared.item.Retired.{Retired}
-use Rattle.ck_epoch.specs.State.{Retirement, queue}
+use Rattle.ck_epoch.specs.State.{queue}
 use Rattle.ck_epoch.specs.Lists.{AreListsOf}
 use Rattle.ck_registry.specs.State.{Origin, Token, TokenState, start, IsOpening, registry, state}
 use Rattle.ck_registry.specs.Deferred.{Deferred, IsLeftOf}

@@ -1,5 +1,5 @@
 -- The steps of a scan.
-use Rattle.std.proofs.Common.{◌≡◌, ◌≢◌, ℕ, ◌+◌, ◌-◌, ◌<◌, ◌≤◌, ◌^◌, inr, Bool, true, false, cond, ◌==◌, eq-eqb, ne_eqb, Option, Some, None, List, [], ◌∷◌, ◌++◌, map, length, length-append, refl, sym, ap, ◌∙◌, subst, arith}
+use Rattle.std.proofs.Common.{◌≡◌, ◌≢◌, ℕ, ◌+◌, ◌<◌, ◌≤◌, ◌^◌, inr, Bool, true, false, cond, ◌==◌, eq-eqb, ne_eqb, Option, Some, None, List, [], ◌∷◌, ◌++◌, map, length, length-append, refl, sym, ap, ◌∙◌, subst, arith}
 use Rattle.std.specs.Option.{unwrap_or}
 use Rattle.std.proofs.lemmas.List.{append_assoc}
 use Rattle.std.proofs.lemmas.List.Elements.{All-nil}
@@ -15,7 +15,7 @@ use Rattle.ck_epoch.specs.Calls.{RecordLook, look_steps, scan_steps}
 use Rattle.ck_epoch.specs.Scan.{IsFirstFound}
 use Rattle.ck_epoch.proofs.Looks.{scan_more, call_more, found_inactive, found_current, are_current}
 use Rattle.ck_registry.specs.declared.answers.Finding.TheVariants.{AllInactive, AllCurrent, OneBehind}
-use Rattle.ck_registry.specs.State.{Origin, Token, TokenState, Activity, resting, passing, checking, ready, dispatch, dispatch_all, after_scan, scan, records_of, registry, state}
+use Rattle.ck_registry.specs.State.{Origin, Token, TokenState, Activity, resting, passing, checking, after_scan, scan, records_of, registry, state}
 use Rattle.ck_registry.specs.Ends.{IsHolder}
 use Rattle.ck_registry.specs.Scan.{begun, scanned, IsScanning, HasScanned}
 use Rattle.ck_registry.proofs.Stepping.{Steps, Went, stays, opened, may_go, goes, went_as, passing_late, may_load, after_idle_load}

@@ -1,9 +1,6 @@
 -- What a scan leaves, by what it found.
-use Rattle.std.proofs.Common.{◌≡◌, ℕ, ◌+◌, ◌-◌, ◌%◌, ◌<◌, ◌≤◌, List, [], ◌∷◌, ◌++◌, length, refl, sym, ap, ◌∙◌, subst, arith}
-use Rattle.std.proofs.lemmas.List.Elements.{All-nil}
-use Rattle.ck_run.specs.Tokens.{table, number, origin}
-use Rattle.ck_epoch.specs.declared.item.Item.{Item}
-use Rattle.ck_epoch.specs.declared.item.Retired.{Retired}
+use Rattle.std.proofs.Common.{◌≡◌, ℕ, ◌+◌, ◌-◌, ◌%◌, ◌<◌, ◌≤◌, [], ◌++◌, length, refl, ap, arith}
+use Rattle.ck_run.specs.Tokens.{number, origin}
 use Rattle.ck_epoch.specs.State.{queue}
 use Rattle.ck_epoch.specs.Lists.{items_on, in_a_row}
 use Rattle.ck_epoch.proofs.Emptying.{IsEmptied}
@@ -11,7 +8,7 @@ use Rattle.ck_registry.specs.declared.answers.Finding.{Finding}
 use Rattle.ck_registry.specs.declared.answers.Finding.TheVariants.{AllInactive, AllCurrent, OneBehind}
 use Rattle.ck_registry.specs.declared.answers.Scan.TheVariants.{Clear, Blocked, Ready}
 use Rattle.ck_registry.specs.State.{Token, TokenState, records_of, state}
-use Rattle.ck_registry.specs.Deferred.{Deferred, items_of, IsLeftOf}
+use Rattle.ck_registry.specs.Deferred.{Deferred, items_of}
 use Rattle.ck_registry.specs.Ends.{Member, IsHolder, AreDeferred}
 use Rattle.ck_registry.specs.Calls.{IsScan}
 use Rattle.ck_registry.specs.Scan.{after_finding, HasScanned}

@@ -6,7 +6,6 @@ use Rattle.ck_run.specs.Run.{entry, further, call}
 use Rattle.ck_run.specs.Machine.{follows_of}
 use Rattle.ck_run.specs.Tokens.{adding, number, origin, MayMake}
 use Rattle.ck_run.proofs.Moments.{adds_one}
-use Rattle.ck_epoch.specs.declared.item.Retired.{Retired}
 use Rattle.ck_epoch.specs.State.{Stage, outside, entering, holding, inside, active_word, epoch_word, at_depth, Retirement, queue}
 use Rattle.ck_epoch.specs.Lists.{AreListsOf}
 use Rattle.ck_registry.specs.State.{Origin, Token, TokenState, away, resting, state_word, begin, end, unregister, records_of, registry, state}

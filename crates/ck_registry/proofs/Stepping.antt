@@ -1,9 +1,8 @@
 -- A step of a visitor: when the registry allows it, where it leaves the visitor, and what the law tells of it.
-use Rattle.std.proofs.Common.{◌≡◌, ℕ, zero, suc, ◌+◌, ◌*◌, ◌^◌, ◌<◌, ◌≤◌, List, [], ◌∷◌, ◌++◌, length, get_or, refl, sym, ap, ◌∙◌, subst, arith}
+use Rattle.std.proofs.Common.{◌≡◌, ℕ, zero, suc, ◌*◌, ◌^◌, ◌<◌, ◌≤◌, List, [], ◌∷◌, ◌++◌, length, get_or, refl, sym, ap, ◌∙◌, subst, arith}
 use Rattle.ck_run.specs.declared.account.Entry.{Entry}
-use Rattle.ck_run.specs.declared.account.Step.{Step}
 use Rattle.ck_run.specs.declared.account.Step.TheVariants.{Load, Store, Exchange}
-use Rattle.ck_run.specs.Run.{Run, Fits, replay, account, entry, handing}
+use Rattle.ck_run.specs.Run.{replay, account, entry}
 use Rattle.ck_run.specs.Rule.{IsRun}
 use Rattle.ck_run.specs.Machine.{IsAt, follows_of}
 use Rattle.ck_run.specs.Tokens.{Table, table, did, number, origin, MayMake, Makes}
@@ -11,7 +10,7 @@ use Rattle.ck_run.proofs.Runs.{split}
 use Rattle.ck_run.proofs.Moments.{run_before, at_step, makes, may_make, origin_stays, number_stays, part_follows}
 use Rattle.ck_epoch.specs.State.{Stage, at_depth, depth_of}
 use Rattle.ck_registry.specs.State.{Origin, Token, TokenState, Activity, away, trying, resting, passing, checking, ready, state_word, IsOpening, MayRest, MayStep, MayLoad, after_rest, after_load, after_step, next, records_of, registry, state, state_at}
-use Rattle.ck_registry.specs.Held.{IsMemberScan, IsSound, calls_below, AreMembersHeld}
+use Rattle.ck_registry.specs.Held.{IsMemberScan, calls_below}
 use Rattle.ck_registry.specs.Ends.{IsRegistryToken, IsIdle, IsHolder, depth}
 use Rattle.ck_registry.proofs.RegistryLaw.{Held, held_after}
 

@@ -1,22 +1,22 @@
 -- The exchanges of `register`.
-use Rattle.std.proofs.Common.{◌≡◌, ◌≢◌, ℕ, zero, suc, ◌+◌, ◌<◌, ◌≤◌, Bool, true, false, cond, ◌==◌, eq-eqb, eqb-true, ne_eqb, append-nil, List, [], ◌∷◌, ◌++◌, map, length, length-append, All, refl, sym, ap, ◌∙◌, subst, arith}
+use Rattle.std.proofs.Common.{◌≡◌, ◌≢◌, ℕ, zero, suc, ◌+◌, ◌<◌, ◌≤◌, Bool, true, false, cond, ◌==◌, eq-eqb, eqb-true, ne_eqb, append-nil, List, [], ◌∷◌, ◌++◌, length, length-append, refl, sym, ap, ◌∙◌, subst, arith}
 use Rattle.std.proofs.lemmas.List.Elements.{All-nil, All-push}
 use Rattle.ck_run.specs.declared.account.Step.{Step}
 use Rattle.ck_run.specs.declared.account.Step.TheVariants.{Exchange}
 use Rattle.ck_run.specs.declared.account.Entry.{Entry}
-use Rattle.ck_run.specs.Run.{entry, further, call}
-use Rattle.ck_run.specs.Machine.{IsAt, follows_of}
+use Rattle.ck_run.specs.Run.{entry, call}
+use Rattle.ck_run.specs.Machine.{follows_of}
 use Rattle.ck_run.specs.Tokens.{Table, table, viewing, adding, did, number, origin, MayMake}
 use Rattle.ck_run.proofs.Moments.{adds_one}
 use Rattle.ck_epoch.specs.State.{outside, depth_of, queue, Retirement}
 use Rattle.ck_epoch.specs.Lists.{AreListsOf}
 use Rattle.ck_epoch.proofs.Looks.{call_more}
-use Rattle.ck_registry.specs.State.{Origin, Token, TokenState, Activity, away, trying, resting, state_word, register, after_try, after_step, MayStep, next, records_of, registry, state}
+use Rattle.ck_registry.specs.State.{Origin, Token, TokenState, Activity, away, trying, resting, state_word, register, after_try, after_step, MayStep, records_of, registry, state}
 use Rattle.ck_registry.specs.Deferred.{Deferred, IsLeftOf}
 use Rattle.ck_registry.specs.Ends.{IsVisitor, IsHolder, IsIdle, AreDeferred, depth}
-use Rattle.ck_registry.specs.Calls.{tries, AreTaken, Registers, FindsNoRecord}
+use Rattle.ck_registry.specs.Calls.{tries, FindsNoRecord}
 use Rattle.ck_registry.specs.Scan.{activity_at, opens_at, IsTrying, HasTaken, HasTried}
-use Rattle.ck_registry.proofs.Stepping.{Steps, Went, stays, opened, may_go, goes, went_as, state_found}
+use Rattle.ck_registry.proofs.Stepping.{Steps, Went, opened, may_go, goes, went_as, state_found}
 use Rattle.ck_registry.proofs.ScanSteps.{low_after}
 
 tries_more : (records rec : ℕ) (found : List ℕ) (n : ℕ) → tries records rec (found ++ n ∷ []) ≡ tries records rec found ++ Exchange (state_word records (rec + length found)) 0 1 n ∷ []

@@ -13,7 +13,7 @@ use Rattle.ck_registry.specs.declared.answers.Scan.{Scan}
 use Rattle.ck_registry.specs.declared.answers.Scan.TheVariants.{Clear, Blocked, Ready}
 use Rattle.ck_registry.specs.declared.answers.Advance.{Advance}
 use Rattle.ck_registry.specs.declared.answers.Advance.TheVariants.{Moved, Raced}
-use Rattle.ck_registry.specs.State.{Token, Activity, resting, ready, state_word, register, unregister, begin, end, retire, scan, advance, state}
+use Rattle.ck_registry.specs.State.{Token, Activity, resting, ready, state_word, register, begin, retire, scan, advance, state}
 use Rattle.ck_registry.specs.Deferred.{items_of}
 use Rattle.ck_registry.specs.Ends.{Member, rec_of, depth}
 

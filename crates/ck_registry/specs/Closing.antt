@@ -1,5 +1,5 @@
 -- The visitors that a registry begins with, and what is known when it is closed.
-use Rattle.std.specs.Prelude.{◌≡◌, ℕ, ◌<◌, List, [], length, All}
+use Rattle.std.specs.Prelude.{◌≡◌, ℕ, ◌<◌, List, All}
 use mathlib.Core.Option.{some}
 use lib.ListN.{get_elem?}
 use Rattle.ck_run.specs.Run.{Run, account}

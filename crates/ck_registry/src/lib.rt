@@ -18,6 +18,8 @@ mod registry;
 mod retiring;
 mod scanning;
 mod sections;
+#[cfg(test)]
+mod tests;
 
 pub use answers::{Advance, NoRecord, Scan};
 pub use ends::{Member, Visitor};

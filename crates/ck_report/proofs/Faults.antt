@@ -161,5 +161,5 @@ module _ {K : Type 0} (IsKey : K → Type 0) (spelling : K → List ℕ) (cmp : 
               let left = after IsKey spelling cmp one_key one_word 0 start r.lines listed.lines [] (omega arith) (omega (arith, r.count)) r.runs listed.runs e in
               let near = near_last IsKey spelling cmp one_key one_word 0 start r.lines (omega arith) r.runs in
               let over = nothing_left IsKey spelling cmp one_key one_word (0 + length r.lines) (last_place start r.lines) left.rest near (omega (arith, r.count)) left.runs left.lines in
-              early (sym r.here ∙ (sym over ∙ (sym left.last ∙ listed.last)));
+              early (sym r.here ∙ (sym over ∙ (sym (last-append start r.lines left.rest) ∙ (ap (last_place start) (sym left.whole) ∙ listed.last))));
         }

@@ -9,7 +9,7 @@ use Rattle.ck_text.proofs.Feeds.{not_fed, lines_with_feeds_alone, lines_with_fee
 use Rattle.ck_report.specs.declared.line.ReportLine.{ReportLine}
 use Rattle.ck_report.specs.declared.place.Place.{Place}
 use Rattle.ck_report.specs.Lines.{place_of, Next, IsTaken, IsShort, line_words, CanFollow, NoneBegins}
-use Rattle.ck_report.proofs.Runs.{chunk, line_are_words, taken_words, same_place}
+use Rattle.ck_report.proofs.Runs.{chunk, line_are_words, taken_words, same_line}
 
 -- the line stands at the head of the text
 pub line_here : {K : Type 0} (spelling : K → List ℕ) (text bytes rest : List ℕ) (said : ReportLine K) → parts 10 text ≡ bytes ∷ parts 10 rest → words bytes ≡ line_words spelling said → text ≡ chunk spelling said ++ rest
@@ -35,5 +35,5 @@ module _ {K : Type 0} (IsKey : K → Type 0) (spelling : K → List ℕ) (cmp : 
   -- what the same words say leads to the same place
   pub not_next : (place : Place K) (bytes : List ℕ) (read : ReportLine K) → IsTaken IsKey read → IsShort read → words bytes ≡ line_words spelling read → (Next cmp place (place_of read) → ⊥) → (said : ReportLine K) → CanFollow IsKey cmp place said → words bytes ≡ line_words spelling said → ⊥
   not_next place bytes read taken short read_is none said follows spelt =
-      let same = same_place IsKey spelling cmp one_key one_word said read follows.taken taken follows.short short (sym spelt ∙ read_is) in
-      none (subst (Next cmp place) same follows.next)
+      let same = same_line IsKey spelling cmp one_key one_word said read follows.taken taken follows.short short (sym spelt ∙ read_is) in
+      none (subst (λ line. Next cmp place (place_of line)) same follows.next)

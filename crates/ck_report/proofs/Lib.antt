@@ -4,6 +4,7 @@ pub mod Listing
 pub mod Gathering
 pub mod Stepping
 pub mod Faults
+pub mod OneReading
 pub mod FirstLine
 pub mod Streaming
 mod Blocks

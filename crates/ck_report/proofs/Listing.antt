@@ -12,29 +12,29 @@ use Rattle.ck_report.specs.declared.line.ReportLine.TheVariants.{Update, Answer,
 use Rattle.ck_report.specs.declared.place.Place.{Place}
 use Rattle.ck_report.specs.declared.place.Place.TheVariants.{AfterUpdate, AfterAnswer, AfterPair, AfterEnd}
 use Rattle.ck_report.specs.Text.{reply_lines, answer_lines, file_lines, pair_lines, report_text}
-use Rattle.ck_report.specs.Reports.{IsReply, IsAnswer, IsPair, IsReport}
+use Rattle.ck_report.specs.Reports.{IsReply, IsAnswer, IsPair, AreLawful, IsReport}
 use Rattle.ck_report.specs.Lines.{place_of, Next}
 use Rattle.ck_report.proofs.Runs.{chunk, text_of, last_place, Runs}
 
 module _ {K : Type 0} where
-  abbrev replies_listed : ℕ → List Reply → List (ReportLine K)
+  abbrev pub replies_listed : ℕ → List Reply → List (ReportLine K)
   replies_listed i [] = []
   replies_listed i (r ∷ rs) = Update i r ∷ replies_listed (i + 1) rs
 
-  abbrev answers_listed : ℕ → ℕ → List (Asked K) → List (ReportLine K)
+  abbrev pub answers_listed : ℕ → ℕ → List (Asked K) → List (ReportLine K)
   answers_listed f i [] = []
   answers_listed f i (a ∷ answers) = Answer f i a ∷ answers_listed f (i + 1) answers
 
-  abbrev files_listed : ℕ → List (List (Asked K)) → List (ReportLine K)
+  abbrev pub files_listed : ℕ → List (List (Asked K)) → List (ReportLine K)
   files_listed f [] = []
   files_listed f (answers ∷ files) = answers_listed f 1 answers ++ files_listed (f + 1) files
 
-  abbrev pairs_listed : List (K × ℕ) → List (ReportLine K)
+  abbrev pub pairs_listed : List (K × ℕ) → List (ReportLine K)
   pairs_listed [] = End ∷ []
   pairs_listed (p ∷ pairs) = Pair p.0 p.1 ∷ pairs_listed pairs
 
   -- the lines of a report
-  abbrev listed : List Reply → List (List (Asked K)) → List (K × ℕ) → List (ReportLine K)
+  abbrev pub listed : List Reply → List (List (Asked K)) → List (K × ℕ) → List (ReportLine K)
   listed replies files pairs = replies_listed 1 replies ++ (files_listed 1 files ++ pairs_listed pairs)
 
   -- before the pairs
@@ -148,6 +148,11 @@ module _ {K : Type 0} where
     replies_run i (r ∷ rs) tail fit later = (refl, fit.0, replies_run (i + 1) rs tail fit.1 later)
 
     module _ (spelling : K → List ℕ) where
+      pub listed_runs : (replies : List Reply) (files : List (List (Asked K))) (pairs : List (K × ℕ)) → AreLawful IsKey spelling cmp replies files pairs → Runs IsKey cmp (AfterUpdate 0) (listed replies files pairs)
+      listed_runs replies files pairs law =
+          replies_run 0 replies (files_listed 1 files ++ pairs_listed pairs) law.replies_fit
+          (λ q. files_run 1 files (AfterUpdate q) (pairs_listed pairs) (omega arith) (omega (arith, law.few)) law.answers_fit (λ p early. pairs_run p pairs early law.pairs_fit law.ascending))
+
       -- the lines of a report
       pub record Lists (text : List ℕ) : Type 0 where
         pub lines : List (ReportLine K)
@@ -156,12 +161,9 @@ module _ {K : Type 0} where
         pub printed : text ≡ text_of spelling lines
 
       pub lists : (text : List ℕ) → IsReport IsKey spelling cmp text → Lists text
-      lists text report =
-          let law = report.lawful in
-          let files = λ (q : ℕ). files_run 1 report.files (AfterUpdate q) (pairs_listed report.pairs) (omega arith) (omega (arith, law.few)) law.answers_fit (λ p early. pairs_run p report.pairs early law.pairs_fit law.ascending) in
-          record {
-            lines = listed report.replies report.files report.pairs;
-            runs = replies_run 0 report.replies (files_listed 1 report.files ++ pairs_listed report.pairs) law.replies_fit files;
-            last = last_listed (AfterUpdate 0) report.replies report.files report.pairs;
-            printed = report.printed ∙ sym (text_listed spelling report.replies report.files report.pairs);
-          }
+      lists text report = record {
+        lines = listed report.replies report.files report.pairs;
+        runs = listed_runs report.replies report.files report.pairs report.lawful;
+        last = last_listed (AfterUpdate 0) report.replies report.files report.pairs;
+        printed = report.printed ∙ sym (text_listed spelling report.replies report.files report.pairs);
+      }

@@ -1,8 +1,9 @@
 -- Lists of lines, each of which may follow the one before it.
-use Rattle.std.proofs.Common.{◌≡◌, ℕ, ◌+◌, ◌<◌, ◌≤◌, ◌^◌, inl, inr, Option, Some, None, List, [], ◌∷◌, ◌++◌, length, map, refl, ap, arith, sym, ◌∙◌, subst, append_assoc, codes}
+use Rattle.std.proofs.Common.{◌≡◌, ℕ, ◌+◌, ◌<◌, ◌≤◌, ◌^◌, inl, inr, Option, Some, None, List, [], ◌∷◌, ◌++◌, length, map, refl, ap, arith, sym, ◌∙◌, subst, append_assoc, codes, bytes_eq, if◌then◌else◌}
 use Rattle.std.specs.declared.cmp.Ordering.{Ordering}
 use Rattle.std.specs.List.{AllByRecursion, join_with_byte}
-use Rattle.std.proofs.lemmas.Fmt.{decimal_injective}
+use Rattle.std.specs.Str.Parse.{digits_value}
+use Rattle.std.proofs.lemmas.Fmt.{decimal_injective, decimal_is_IsNumeral}
 use Rattle.ck_history.specs.declared.update.Reply.{Reply}
 use Rattle.ck_history.specs.declared.update.Reply.TheVariants.{Fresh, Was, Has, Missing, Tidied, Full}
 use Rattle.ck_text.specs.Words.{line, words, IsWord, first_byte}
@@ -75,6 +76,35 @@ found_are_words : (f : Option ℕ) → IsFound f → AllByRecursion IsWord (foun
 found_are_words (Some v) fits = (word_from (codes "=") refl, (number_one_word v fits, tt))
 found_are_words None fits = (word_from (codes "absent") refl, tt)
 
+-- the number that the first word is
+abbrev number_of : List (List ℕ) → ℕ
+number_of [] = 0
+number_of (w ∷ ws) = digits_value 10 w
+
+-- the reply that these words call
+abbrev reply_of : List (List ℕ) → Reply
+reply_of [] = Fresh
+reply_of (name ∷ more) =
+    if bytes_eq name (codes "was") then Was (number_of more)
+    else (if bytes_eq name (codes "has") then Has (number_of more)
+    else (if bytes_eq name (codes "missing") then Missing
+    else (if bytes_eq name (codes "tidied") then Tidied
+    else (if bytes_eq name (codes "full") then Full else Fresh))))
+
+reply_of_words : (r : Reply) → IsReply r → reply_of (reply_words r) ≡ r
+reply_of_words Fresh fits = refl
+reply_of_words (Was v) fits = ap Was (decimal_is_IsNumeral v fits).1
+reply_of_words (Has v) fits = ap Has (decimal_is_IsNumeral v fits).1
+reply_of_words Missing fits = refl
+reply_of_words Tidied fits = refl
+reply_of_words Full fits = refl
+
+one_found : (f g : Option ℕ) → IsFound f → IsFound g → found_words f ≡ found_words g → f ≡ g
+one_found (Some v) (Some w) hv hw e = ap Some (decimal_injective v w hv hw (cc))
+one_found (Some v) None hv hw e = absurd (omega (arith, ap length e))
+one_found None (Some w) hv hw e = absurd (omega (arith, ap length e))
+one_found None None hv hw e = refl
+
 module _ {K : Type 0} (IsKey : K → Type 0) (spelling : K → List ℕ) (cmp : K → K → Ordering) (one_key : (j k : K) → IsKey j → IsKey k → spelling j ≡ spelling k → j ≡ k) (one_word : (k : K) → IsKey k → IsWord (spelling k)) where
   pub line_are_words : (said : ReportLine K) → IsTaken IsKey said → IsShort said → AllByRecursion IsWord (line_words spelling said)
   line_are_words (Update i reply) taken short = (word_from (codes "u") refl, (number_one_word i short, reply_are_words reply taken))
@@ -88,27 +118,36 @@ module _ {K : Type 0} (IsKey : K → Type 0) (spelling : K → List ℕ) (cmp : 
   some_words (Pair key v) = omega arith
   some_words End = omega arith
 
-  -- lines of the same words lead to the same place
-  pub same_place : (said other : ReportLine K) → IsTaken IsKey said → IsTaken IsKey other → IsShort said → IsShort other → line_words spelling said ≡ line_words spelling other → place_of said ≡ place_of other
-  same_place (Update i r) (Update j s) ti tj si sj e = ap AfterUpdate (decimal_injective i j si sj (cc))
-  same_place (Update i r) (Answer g j b) ti tj si sj e = absurd (omega (arith, ap first_byte e))
-  same_place (Update i r) (Pair l w) ti tj si sj e = absurd (omega (arith, ap first_byte e))
-  same_place (Update i r) End ti tj si sj e = absurd (omega (arith, ap first_byte e))
-  same_place (Answer f i a) (Update j s) ti tj si sj e = absurd (omega (arith, ap first_byte e))
-  same_place (Answer f i a) (Answer g j b) ti tj si sj e =
+  -- lines of the same words say the same
+  pub same_line : (said other : ReportLine K) → IsTaken IsKey said → IsTaken IsKey other → IsShort said → IsShort other → line_words spelling said ≡ line_words spelling other → said ≡ other
+  same_line (Update i r) (Update j s) ti tj si sj e =
+      let numbers : i ≡ j = decimal_injective i j si sj (cc) in
+      let words : reply_words r ≡ reply_words s = cc in
+      let replies : r ≡ s = sym (reply_of_words r ti) ∙ (ap reply_of words ∙ reply_of_words s tj) in
+      cc
+  same_line (Update i r) (Answer g j b) ti tj si sj e = absurd (omega (arith, ap first_byte e))
+  same_line (Update i r) (Pair l w) ti tj si sj e = absurd (omega (arith, ap first_byte e))
+  same_line (Update i r) End ti tj si sj e = absurd (omega (arith, ap first_byte e))
+  same_line (Answer f i a) (Update j s) ti tj si sj e = absurd (omega (arith, ap first_byte e))
+  same_line (Answer f i a) (Answer g j b) ti tj si sj e =
       let files : f ≡ g = decimal_injective f g si.0 sj.0 (cc) in
       let numbers : i ≡ j = decimal_injective i j si.1 sj.1 (cc) in
+      let keys : a.key ≡ b.key = one_key a.key b.key ti.0 tj.0 (cc) in
+      let found : a.found ≡ b.found = one_found a.found b.found ti.1 tj.1 (cc) in
+      λ t. Answer (files t) (numbers t) (record { key = keys t; found = found t })
+  same_line (Answer f i a) (Pair l w) ti tj si sj e = absurd (omega (arith, ap first_byte e))
+  same_line (Answer f i a) End ti tj si sj e = absurd (omega (arith, ap first_byte e))
+  same_line (Pair k v) (Update j s) ti tj si sj e = absurd (omega (arith, ap first_byte e))
+  same_line (Pair k v) (Answer g j b) ti tj si sj e = absurd (omega (arith, ap first_byte e))
+  same_line (Pair k v) (Pair l w) ti tj si sj e =
+      let keys : k ≡ l = one_key k l ti.0 tj.0 (cc) in
+      let values : v ≡ w = decimal_injective v w ti.1 tj.1 (cc) in
       cc
-  same_place (Answer f i a) (Pair l w) ti tj si sj e = absurd (omega (arith, ap first_byte e))
-  same_place (Answer f i a) End ti tj si sj e = absurd (omega (arith, ap first_byte e))
-  same_place (Pair k v) (Update j s) ti tj si sj e = absurd (omega (arith, ap first_byte e))
-  same_place (Pair k v) (Answer g j b) ti tj si sj e = absurd (omega (arith, ap first_byte e))
-  same_place (Pair k v) (Pair l w) ti tj si sj e = ap AfterPair (one_key k l ti.0 tj.0 (cc))
-  same_place (Pair k v) End ti tj si sj e = absurd (omega (arith, ap first_byte e))
-  same_place End (Update j s) ti tj si sj e = absurd (omega (arith, ap first_byte e))
-  same_place End (Answer g j b) ti tj si sj e = absurd (omega (arith, ap first_byte e))
-  same_place End (Pair l w) ti tj si sj e = absurd (omega (arith, ap first_byte e))
-  same_place End End ti tj si sj e = refl
+  same_line (Pair k v) End ti tj si sj e = absurd (omega (arith, ap first_byte e))
+  same_line End (Update j s) ti tj si sj e = absurd (omega (arith, ap first_byte e))
+  same_line End (Answer g j b) ti tj si sj e = absurd (omega (arith, ap first_byte e))
+  same_line End (Pair l w) ti tj si sj e = absurd (omega (arith, ap first_byte e))
+  same_line End End ti tj si sj e = refl
 
   -- a line is cut at its line feed
   pub first_line : (said : ReportLine K) (rest : List ℕ) → IsTaken IsKey said → IsShort said → lines_with_feeds (chunk spelling said ++ rest) ≡ chunk spelling said ∷ lines_with_feeds rest
@@ -134,10 +173,10 @@ module _ {K : Type 0} (IsKey : K → Type 0) (spelling : K → List ℕ) (cmp : 
     pub rest : List (ReportLine K)
     pub runs : Runs IsKey cmp (last_place p ls) rest
     pub lines : lines_with_feeds (text_of spelling rest) ≡ tail
-    pub last : last_place p ms ≡ last_place (last_place p ls) rest
+    pub whole : ms ≡ ls ++ rest
 
   pub after : (n : ℕ) (p : Place K) (ls ms : List (ReportLine K)) (tail : List (List ℕ)) → IsNear n p → n + length ls < 2 ^ 64 → Runs IsKey cmp p ls → Runs IsKey cmp p ms → lines_with_feeds (text_of spelling ms) ≡ map (chunk spelling) ls ++ tail → After p ls ms tail
-  after n p [] ms tail near small hl hm e = record { rest = ms; runs = hm; lines = e; last = refl }
+  after n p [] ms tail near small hl hm e = record { rest = ms; runs = hm; lines = e; whole = refl }
   after n p (l ∷ ls) [] tail near small hl hm e = absurd (cc)
   after n p (l ∷ ls) (m ∷ ms) tail near small hl hm e =
       let near_l = near_next cmp n p (place_of l) near hl.0 in
@@ -147,9 +186,9 @@ module _ {K : Type 0} (IsKey : K → Type 0) (spelling : K → List ℕ) (cmp : 
       let both : chunk spelling m ∷ lines_with_feeds (text_of spelling ms) ≡ chunk spelling l ∷ (map (chunk spelling) ls ++ tail) = sym (first_line m (text_of spelling ms) hm.1 short_m) ∙ e in
       let heads : chunk spelling m ≡ chunk spelling l = cc in
       let tails : lines_with_feeds (text_of spelling ms) ≡ map (chunk spelling) ls ++ tail = cc in
-      let place : place_of m ≡ place_of l = same_place m l hm.1 hl.1 short_m short_l (same_words m l hm.1 hl.1 short_m short_l heads) in
-      let later = after (n + 1) (place_of l) ls ms tail near_l (omega arith) hl.2 (subst (λ q. Runs IsKey cmp q ms) place hm.2) tails in
-      record { rest = later.rest; runs = later.runs; lines = later.lines; last = ap (λ q. last_place q ms) place ∙ later.last }
+      let same : m ≡ l = same_line m l hm.1 hl.1 short_m short_l (same_words m l hm.1 hl.1 short_m short_l heads) in
+      let later = after (n + 1) (place_of l) ls ms tail near_l (omega arith) hl.2 (subst (λ said. Runs IsKey cmp (place_of said) ms) same hm.2) tails in
+      record { rest = later.rest; runs = later.runs; lines = later.lines; whole = λ t. same t ∷ later.whole t }
 
   pub near_last : (n : ℕ) (p : Place K) (ls : List (ReportLine K)) → IsNear n p → Runs IsKey cmp p ls → IsNear (n + length ls) (last_place p ls)
   near_last n p [] near runs = subst (λ m. IsNear m p) (omega arith) near

@@ -4,6 +4,7 @@
 
 mod asked;
 mod gather;
+mod laws;
 mod line;
 mod lines;
 mod map_report;
@@ -18,6 +19,7 @@ mod tasks;
 mod tests;
 
 pub use asked::Asked;
+pub use laws::one_reading_law;
 pub use map_report::{MapReport, ReportError};
 pub use print::report_map;
 pub use put::{PutError, put_report};

@@ -61,8 +61,9 @@ get_push (z ∷ xs) y (suc j) x is = elim (get_push xs y j x is) [ inl at ↦ in
 pub jumps_push : (jumps : List (ℕ × ℕ)) (ahead place now : ℕ) → AreJumps jumps ahead place → AreJumps (jumps ++ (place, now) ∷ []) now place
 jumps_push jumps ahead place now h = record {
   ascending = λ a b x y le at at'. elim (get_push jumps (place, now) b y at') [
-      inl old' ↦ elim (get_push jumps (place, now) a x at) [ inl old ↦ h.ascending a b x y le old old' | inr new ↦ absurd (omega (arith, new.0, slice_get_within jumps b y old')) ]
-    | inr new' ↦ elim (get_push jumps (place, now) a x at) [ inl old ↦ subst (λ (z : ℕ × ℕ). x.0 ≤ z.0) (sym new'.1) (h.reached a x old) | inr new ↦ let e : x.0 ≡ y.0 = ap (λ (z : ℕ × ℕ). z.0) (new.1 ∙ sym new'.1) in omega (arith, e) ] ];
+    | inl old' ↦ elim (get_push jumps (place, now) a x at) [ inl old ↦ h.ascending a b x y le old old' | inr new ↦ absurd (omega (arith, new.0, slice_get_within jumps b y old')) ]
+    | inr new' ↦ elim (get_push jumps (place, now) a x at) [ inl old ↦ subst (λ (z : ℕ × ℕ). x.0 ≤ z.0) (sym new'.1) (h.reached a x old) | inr new ↦ let e : x.0 ≡ y.0 = ap (λ (z : ℕ × ℕ). z.0) (new.1 ∙ sym new'.1) in omega (arith, e) ]
+  ];
   reached = λ j x at. elim (get_push jumps (place, now) j x at) [ inl old ↦ h.reached j x old | inr new ↦ let e : x.0 ≡ place = ap (λ (z : ℕ × ℕ). z.0) new.1 in omega (arith, e) ];
   last = λ i le. ahead_from 1 jumps i (place, now) (λ j x at. omega (arith, h.reached j x at)) le;
 }
@@ -92,8 +93,9 @@ narrow_or_wide k = cases_lt k 128
 
 number_same : (wides wides' : List ℕ) (k low : ℕ) → AreMore wides wides' → (128 ≤ k → low < length wides) → number_in wides' k low ≡ number_in wides k low
 number_same wides wides' k low more within = elim (narrow_or_wide k) [
-    inl lt ↦ narrow_number wides' k low lt ∙ sym (narrow_number wides k low lt)
-  | inr le ↦ wide_number wides' k low le ∙ (more.1 low (within le) ∙ sym (wide_number wides k low le)) ]
+  | inl lt ↦ narrow_number wides' k low lt ∙ sym (narrow_number wides k low lt)
+  | inr le ↦ wide_number wides' k low le ∙ (more.1 low (within le) ∙ sym (wide_number wides k low le))
+]
 
 -- within a list the element is the same for each default
 get_or_any : {X : Type 0} (xs : List X) (i : ℕ) (d e : X) → i < length xs → get_or xs i d ≡ get_or xs i e
@@ -186,12 +188,12 @@ module _ {R : Type 0} where
           → rows_of jumps' wides' 0 (kinds ++ k ∷ []) (cells ++ cell ∷ []) ≡ rows_of jumps wides 0 kinds cells ++ row ∷ []
       rows_more row line kind number rest =
           let lines : (length kinds + ahead_at jumps' (length kinds)) % 2 ^ 64 ≡ row.line =
-              ap (λ a. (length kinds + a) % 2 ^ 64) (jumped.last (length kinds) (omega (arith, end))) ∙ (ap (λ m. (m + ahead') % 2 ^ 64) (sym end) ∙ line) in
+          ap (λ a. (length kinds + a) % 2 ^ 64) (jumped.last (length kinds) (omega (arith, end))) ∙ (ap (λ m. (m + ahead') % 2 ^ 64) (sym end) ∙ line) in
           let is : row_at jumps' wides' (length kinds) k cell ≡ row =
-              ap (λ x. record { line = x; kind = kind_of k; number = number_in wides' k cell.0; rest = cell.1 }) lines
-              ∙ (ap (λ x. record { line = row.line; kind = x; number = number_in wides' k cell.0; rest = cell.1 }) kind
-              ∙ (ap (λ x. record { line = row.line; kind = row.kind; number = x; rest = cell.1 }) number
-              ∙ ap (λ x. record { line = row.line; kind = row.kind; number = row.number; rest = x }) rest)) in
+          ap (λ x. record { line = x; kind = kind_of k; number = number_in wides' k cell.0; rest = cell.1 }) lines
+          ∙ (ap (λ x. record { line = row.line; kind = x; number = number_in wides' k cell.0; rest = cell.1 }) kind
+          ∙ (ap (λ x. record { line = row.line; kind = row.kind; number = x; rest = cell.1 }) number
+          ∙ ap (λ x. record { line = row.line; kind = row.kind; number = row.number; rest = x }) rest)) in
           let place : 0 + length kinds ≡ length kinds = omega arith in
           rows_push jumps' wides' 0 kinds cells k cell h.same ∙ (ap (λ m. rows_of jumps' wides' 0 kinds cells ++ row_at jumps' wides' m k cell ∷ []) place
           ∙ (ap (λ rows. rows ++ row_at jumps' wides' (length kinds) k cell ∷ []) rows_still ∙ ap (λ r. rows_of jumps wides 0 kinds cells ++ r ∷ []) is))

@@ -19,8 +19,8 @@ pub use circle::check_circles;
 pub use compact::{CompactCall, CompactKey, CompactLine};
 pub use fault::{ScriptError, ScriptFault, Why};
 pub use key_word::KeyWord;
-pub use lines::Lines;
 pub use line::{AskLine, Numbered, UpLine};
+pub use lines::Lines;
 pub use read::{read_queries, read_updates, scan_queries, scan_updates};
 
 #[cfg(test)]

@@ -137,7 +137,12 @@ fn note_number(wides: &mut Vec<u128>, kind: u8, number: u128) -> Result<(u8, u64
 }
 
 // Adds one to each list, or to neither.
-fn push_both<A: Drop, B: Drop>(xs: &mut Vec<A>, ys: &mut Vec<B>, x: A, y: B) -> Result<(), AllocError>
+fn push_both<A: Drop, B: Drop>(
+    xs: &mut Vec<A>,
+    ys: &mut Vec<B>,
+    x: A,
+    y: B,
+) -> Result<(), AllocError>
     ensures ok { OnOk result ((xs.new.items ≡ xs.old.items ++ x ∷ []) × (ys.new.items ≡ ys.old.items ++ y ∷ [])) }
     ensures err { OnErr result ((xs.new.items ≡ xs.old.items) × (ys.new.items ≡ ys.old.items)) }
 {

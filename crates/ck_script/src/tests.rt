@@ -128,7 +128,10 @@ fn a_line_is_kept_in_few_bytes(rt: HostRuntime) {
     assert_eq!(rt; size_of::<Numbered<UpLine<Update<Key>>>>(), 48);
     assert_eq!(rt; size_of::<Numbered<AskLine<Key>>>(), 32);
     // In `Lines` there is one byte more beside each of these.
-    assert_eq!(rt; size_of::<(u64, <UpLine<Update<Key>> as CompactLine>::Rest)>(), 16);
+    assert_eq!(rt;
+        size_of::<(u64, <UpLine<Update<Key>> as CompactLine>::Rest)>(),
+        16
+    );
     assert_eq!(rt; size_of::<(u64, <AskLine<Key> as CompactLine>::Rest)>(), 8);
 }
 
@@ -278,7 +281,8 @@ fn a_hold_for_a_query_after_a_wait_for_more(rt: HostRuntime) -> Result<(), Fail>
 #[test]
 fn lines_are_kept_in_rows(rt: HostRuntime) -> Result<(), Fail> {
     let alloc = rt.alloc();
-    let file = "set 1 5\n\n# a comment\nput 18446744073709551616 6\ndel 18446744073709551615\ntidy\n\nset 340282366920938463463374607431768211454 18446744073709551615";
+    let file =
+        "set 1 5\n\n# a comment\nput 18446744073709551616 6\ndel 18446744073709551615\ntidy\n\nset 340282366920938463463374607431768211454 18446744073709551615";
     let said: Vec<Numbered<UpLine<Update<Key>>>> = read_updates(alloc, file.as_bytes())?;
     let mut ups = Lines::new(alloc);
     for line in &said {
@@ -298,7 +302,10 @@ fn lines_are_kept_in_rows(rt: HostRuntime) -> Result<(), Fail> {
     assert!(rt; 5 < ups.len());
     assert_eq!(rt; ups.get(5), hold);
 
-    let asked: Vec<Numbered<AskLine<Key>>> = read_queries(alloc, b"get 7\nwait 3\n\nget 18446744073709551616\n")?;
+    let asked: Vec<Numbered<AskLine<Key>>> = read_queries(
+        alloc,
+        b"get 7\nwait 3\n\nget 18446744073709551616\n",
+    )?;
     let mut asks = Lines::new(alloc);
     for line in &asked {
         asks.push(*line)?;

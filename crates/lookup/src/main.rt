@@ -1,5 +1,5 @@
-//! `lookup`: makes the updates of one script on a table, answers the queries of others, and prints a report.
-//! All that it does is `run_program` of ck_lookup.
+//! `lookup`: runs scripts on a table and prints a report, sums up a generated run, or judges a report. All that it does is
+//! `run_program` of ck_lookup.
 #![tactic(auto)]
 
 use ck_lookup::run_program;

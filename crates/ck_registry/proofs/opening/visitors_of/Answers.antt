@@ -1,9 +1,8 @@
-use Rattle.std.proofs.Common.{◌≡◌, ℕ, ◌+◌, ◌<◌, ◌≤◌, [], ◌∷◌, ◌++◌, length, length-append, append_assoc, sym, ap, ◌∙◌, subst, arith}
+use Rattle.std.proofs.Common.{◌≡◌, ℕ, ◌+◌, [], ◌∷◌, ◌++◌, length, length-append, append_assoc, sym, ap, ◌∙◌, subst, arith}
 use Rattle.ck_run.specs.Ends.{EachFrom, fresh}
 use Rattle.ck_run.proofs.Ends.{each_snoc}
 use Rattle.ck_registry.specs.State.{Token}
 use Rattle.ck_registry.specs.Ends.{Visitor}
-use Rattle.ck_registry.specs.Closing.{AreFreshVisitors}
 use Rattle.ck_registry.proofs.Parting.{each_next, low_next}
 use Rattle.ck_registry.proofs.opening.visitors_of.Goals as goal
 

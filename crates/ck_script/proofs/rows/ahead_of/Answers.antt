@@ -38,5 +38,5 @@ returns-else-low-eq0 c =
     let some : k < c.loop-low.low = omega (arith, c.if-low-eq0.false) in
     let here = slice_get-get_or c.args.jumps.now k (0, 0) (omega (arith, c.loop-low.invariant.order, c.loop-low.invariant.within)) in
     sym (ahead_last 1 c.args.jumps.now c.args.i k (get_or c.args.jumps.now k (0, 0)) here
-      (λ j x le at. c.loop-low.invariant.below j x (omega arith) at)
-      (λ j x lt at. c.loop-low.invariant.above j x (omega (arith, c.loop-low-test.false)) at))
+    (λ j x le at. c.loop-low.invariant.below j x (omega arith) at)
+    (λ j x lt at. c.loop-low.invariant.above j x (omega (arith, c.loop-low-test.false)) at))

@@ -1,4 +1,4 @@
-use Rattle.std.proofs.Common.{◌+◌, ◌<◌, ◌%◌, [], ◌∷◌, ◌++◌, ap, ◌∙◌, length, slice_set, refl, sym, subst, arith}
+use Rattle.std.proofs.Common.{◌+◌, ◌<◌, ◌%◌, ap, length, slice_set, refl, sym, subst, arith}
 use Rattle.std.specs.VecDeque.{deque_len, deque_capacity}
 use Rattle.ck_epoch.specs.declared.item.Retired.{Retired}
 use Rattle.ck_epoch.specs.Lists.{PendingList, in_a_row, lists_view}

@@ -1,5 +1,5 @@
-use Rattle.std.proofs.Common.{◌≡◌, ◌+◌, ◌<◌, ◌≤◌, ◌^◌, ap, ◌∙◌, subst, arith}
-use Rattle.ck_registry.specs.State.{state, ready}
+use Rattle.std.proofs.Common.{◌+◌, ◌<◌, ◌^◌, ap, ◌∙◌, subst, arith}
+use Rattle.ck_registry.specs.State.{state}
 use Rattle.ck_registry.specs.declared.answers.Advance.TheVariants.{Moved}
 use Rattle.ck_registry.specs.Ends.{Member}
 use Rattle.ck_registry.specs.Calls.{IsAdvance}

@@ -1,4 +1,4 @@
-use Rattle.std.proofs.Common.{rules, ◌≡◌, ◌<◌, ◌∷◌, length, All, sym, ap, ◌∙◌, subst, arith}
+use Rattle.std.proofs.Common.{rules, ◌≡◌, ◌∷◌, All, sym, ap, ◌∙◌, subst, arith}
 use Rattle.ck_run.specs.Tokens.{Table, table}
 use Rattle.ck_run.specs.Ends.{joined_all}
 use Rattle.ck_run.proofs.Lists.{inside}

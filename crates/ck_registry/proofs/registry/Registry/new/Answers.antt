@@ -1,4 +1,4 @@
-use Rattle.std.proofs.Common.{rules, ◌≡◌, ℕ, ◌+◌, ◌≤◌, vec_len, ap, sym, ◌∙◌, subst, arith}
+use Rattle.std.proofs.Common.{rules, ◌≡◌, ap, sym, subst, arith}
 use Rattle.ck_run.specs.Ends.{fresh}
 use Rattle.ck_run.proofs.Ends.{each_weaker}
 use Rattle.ck_registry.specs.State.{Origin, IsOpening}

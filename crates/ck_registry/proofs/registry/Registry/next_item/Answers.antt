@@ -1,4 +1,4 @@
-use Rattle.std.proofs.Common.{◌≡◌, ◌+◌, ◌≤◌, ap, subst, sym, arith}
+use Rattle.std.proofs.Common.{subst, sym, arith}
 use Rattle.ck_epoch.specs.Lists.{AreListsOf}
 use Rattle.ck_epoch.specs.State.{queue}
 use Rattle.ck_registry.specs.State.{state}

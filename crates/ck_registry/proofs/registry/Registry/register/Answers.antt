@@ -1,9 +1,8 @@
-use Rattle.std.proofs.Common.{◌≡◌, ℕ, ◌<◌, ◌≤◌, refl, sym, ap, ◌∙◌, subst, arith}
+use Rattle.std.proofs.Common.{◌≡◌, ℕ, ◌<◌, refl, sym, ap, ◌∙◌, subst, arith}
 use Rattle.ck_run.specs.Tokens.{Table, table, number, origin}
-use Rattle.ck_registry.specs.State.{Token, records_of, state}
+use Rattle.ck_registry.specs.State.{records_of}
 use Rattle.ck_registry.specs.Ends.{Visitor, rec_of}
 use Rattle.ck_registry.specs.Calls.{Registers}
-use Rattle.ck_registry.specs.Scan.{HasTaken}
 use Rattle.ck_registry.proofs.Stepping.{records_are}
 use Rattle.ck_registry.proofs.Trying.{tries_first, holds, begins}
 use Rattle.ck_registry.proofs.registry.Registry.register.Goals as goal

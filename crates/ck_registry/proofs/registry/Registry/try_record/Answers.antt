@@ -3,7 +3,7 @@ use Rattle.ck_run.specs.Run.{entry}
 use Rattle.ck_run.specs.declared.account.Step.TheVariants.{Exchange}
 use Rattle.ck_run.specs.Machine.{follows_of}
 use Rattle.ck_run.specs.Tokens.{origin, MayMake, Makes}
-use Rattle.ck_registry.specs.State.{Token, Origin, state_word, records_of, registry}
+use Rattle.ck_registry.specs.State.{Token, state_word, records_of, registry}
 use Rattle.ck_registry.specs.Scan.{IsTrying}
 use Rattle.ck_registry.proofs.Stepping.{records_are}
 use Rattle.ck_registry.proofs.Trying.{trying_low, may_try, tried}

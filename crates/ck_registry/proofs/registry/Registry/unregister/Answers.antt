@@ -1,6 +1,6 @@
-use Rattle.std.proofs.Common.{◌≡◌, ℕ, ◌≤◌, length, sym, ap, ◌∙◌, subst, arith}
-use Rattle.ck_run.specs.Tokens.{table, origin}
-use Rattle.ck_registry.specs.State.{Token, state, state_word, records_of}
+use Rattle.std.proofs.Common.{ℕ, length, sym, ap, ◌∙◌, arith}
+use Rattle.ck_run.specs.Tokens.{table}
+use Rattle.ck_registry.specs.State.{state, state_word}
 use Rattle.ck_registry.specs.Ends.{Member, depth}
 use Rattle.ck_registry.proofs.Stepping.{at_zero, none_of, records_are}
 use Rattle.ck_registry.proofs.SectionSteps.{may_hand, is_away, away_calls}
