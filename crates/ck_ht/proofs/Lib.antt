@@ -5,6 +5,9 @@ pub mod BoundingEvents
 pub mod LogEvents
 pub mod UpdateEvents
 pub mod Staying
+pub mod Backs
+pub mod Waits
+pub mod Few
 pub mod Settling
 pub mod Closing
 pub mod Sizes

@@ -1,5 +1,5 @@
 -- The signal calls of a table: they leave its tokens where they stand, and are events or none.
-use Rattle.std.proofs.Common.{◌≡◌, ℕ, ◌+◌, ◌<◌, ◌≤◌, ◌⊎◌, ⊎_elim, inl, inr, Bool, true, false, cond, nat_le, nat_lt, ◌==◌, ◌&&◌, eq-eqb, List, [], ◌∷◌, ◌++◌, length, append-nil, refl, sym, ap, ◌∙◌, arith}
+use Rattle.std.proofs.Common.{◌≡◌, ℕ, ◌+◌, ◌<◌, ◌≤◌, ◌⊎◌, ⊎_elim, inl, inr, Bool, true, false, cond, nat_le, nat_lt, ◌==◌, ◌&&◌, eq-eqb, List, [], ◌∷◌, ◌++◌, length, append-nil, refl, sym, ap, ◌∙◌, subst, arith}
 use Rattle.std.specs.Prelude.{Result, Ok, Err, MatchResult, All}
 use Rattle.std.proofs.lemmas.Bool.Decides.{nat_tests}
 use Rattle.std.proofs.lemmas.List.Elements.{All-head, All-tail}
@@ -8,7 +8,7 @@ use Rattle.ck_run.specs.declared.account.Entry.{Entry}
 use Rattle.ck_run.specs.Range.{word_of}
 use Rattle.ck_run.specs.Tokens.{adding, did, number, origin}
 use Rattle.ck_epoch.specs.State.{Origin, base_of}
-use Rattle.ck_epoch.specs.Calls.{StepsBelow}
+use Rattle.ck_epoch.specs.Calls.{SameItemsAndEpoch, StepsBelow}
 use Rattle.ck_epoch.specs.Ends.{Pass, Writer}
 use Rattle.ck_signal.specs.declared.signals.Signals.{Signals}
 use Rattle.ck_signal.specs.Words.{reaches, notes, marks, asks}
@@ -30,7 +30,10 @@ use Rattle.ck_htread.specs.Reading.{LookTotals, totals_of}
 use Rattle.ck_htread.proofs.Telling.{record_of}
 use Rattle.ck_htwrite.specs.declared.state.HtState.{HtState}
 use Rattle.ck_htwrite.specs.State.{Ready}
-use Rattle.ck_ht.specs.Ends.{IsBetweenUpdates, IsPassReady}
+use Rattle.ck_htwrite.specs.Arena.{AreTableItems}
+use Rattle.ck_htwrite.specs.Writes.{counters_in}
+use Rattle.ck_ht.specs.Ends.{IsBetweenUpdates, IsPassReady, IsWriterReady}
+use Rattle.ck_ht.proofs.Staying.{items_beside, ready_beside}
 use Rattle.ck_ht.specs.Events.{Reading, Writing, reached_result, answer_events, reached_event, answered_event, update_events, told_event, logs_next, reader_event, writer_event, pass_events, hand_events}
 use Rattle.ck_ht.proofs.Closing.{is_first}
 use Rattle.ck_ht.proofs.Elsewhere.{beyond, not_less, looks_still, ready_still, below_all, writer_still}
@@ -130,6 +133,15 @@ module _ (o : Origin (Signals HtClient)) where
   -- a writer with its lists is between two updates
   pub between : {F : Type 0} (w : Writer (Signals HtClient) F) (s : HtState) → Ready with_signals o w s → IsBetweenUpdates o w
   between w s r = record { is_idle = (r.lists.is_writer, r.lists.is, r.lists.idles); tally = r.tally; few = r.few }
+
+  -- it stays so at a step beside the table's
+  pub writer_beside : {F : Type 0} (w v : Writer (Signals HtClient) F) (s : HtState) (e : Entry) → IsWriterReady o w s → v ≡ record w { token = adding w.token (e ∷ []) } → is_table_word k e.step ≡ false → e.item ≡ [] → SameItemsAndEpoch w.token v.token → IsWriterReady o v s
+  writer_beside {F} w v s e r made off none same = record {
+    ready = ready_beside with_signals o w v s e r.ready made off none same;
+    own = subst (AreTableItems (counters_in with_signals o) 0) (items_beside with_signals o w v e made same) r.own;
+    given = ap (λ (x : Writer (Signals HtClient) F). x.waiting) made ∙ r.given;
+    room = ap (λ (x : Writer (Signals HtClient) F). x.room) made ∙ r.room;
+  }
 
   -- one signal of a writer between two updates
   writer_signal : {F : Type 0} (w v : Writer (Signals HtClient) F) (e : Entry) → IsBetweenUpdates o w → v ≡ record w { token = adding w.token (e ∷ []) } → is_table_word k e.step ≡ false → e.item ≡ []

@@ -4,7 +4,7 @@ use Rattle.ck_run.specs.declared.account.Entry.{Entry}
 use Rattle.ck_run.specs.Machine.{state_after}
 use Rattle.ck_run.specs.Tokens.{adding, did, number}
 use Rattle.ck_run.proofs.Law.{state-append}
-use Rattle.ck_epoch.specs.State.{Origin, state}
+use Rattle.ck_epoch.specs.State.{Origin, Token, state}
 use Rattle.ck_epoch.specs.Calls.{SameItemsAndEpoch}
 use Rattle.ck_epoch.specs.Ends.{Writer}
 use Rattle.ck_htlaw.specs.Client.{Answers, answers_after, answers_next}
@@ -13,8 +13,9 @@ use Rattle.ck_htlaw.specs.Known.{knows}
 use Rattle.ck_htlaw.specs.Table.{Layout, WriterState, writer, is_table_word}
 use Rattle.ck_htwrite.specs.declared.state.HtState.{HtState}
 use Rattle.ck_htwrite.specs.Arena.{IsKept, unreturned}
-use Rattle.ck_htwrite.specs.State.{Ready}
+use Rattle.ck_htwrite.specs.State.{IsReady, Ready}
 use Rattle.ck_htwrite.specs.Writes.{counters_in}
+use Rattle.ck_htwrite.proofs.Rebuilding.{with_arena}
 use Rattle.ck_ht.proofs.Elsewhere.{writer_still}
 
 module _ {D : Type 0} (host : Host D) (o : Origin D) where
@@ -48,10 +49,23 @@ module _ {D : Type 0} (host : Host D) (o : Origin D) where
         log,
       )
 
-  -- after one step that retires and dispatches nothing
+  -- one step that retires and dispatches nothing
+  pub items_beside : {F : Type 0} (w v : Writer D F) (e : Entry) → v ≡ record w { token = adding w.token (e ∷ []) } → SameItemsAndEpoch w.token v.token → unreturned (state w.token) w.waiting ≡ unreturned (state v.token) v.waiting
+  items_beside {F} w v e made same i = unreturned (record (state v.token) { pending = sym same.0 i; dispatched = sym same.1 i }) (sym (ap (λ (x : Writer D F). x.waiting) made) i)
+
   pub ready_beside : {F : Type 0} (w v : Writer D F) (s : HtState) (e : Entry) → Ready host o w s → v ≡ record w { token = adding w.token (e ∷ []) } → is_table_word l e.step ≡ false → e.item ≡ [] → SameItemsAndEpoch w.token v.token → Ready host o v s
   ready_beside {F} w v s e r made off none same =
-      let items : unreturned (state w.token) w.waiting ≡ unreturned (state v.token) v.waiting =
-      (λ i. unreturned (record (state v.token) { pending = sym same.0 i; dispatched = sym same.1 i }) (sym (ap (λ (x : Writer D F). x.waiting) made) i)) in
+      let items = items_beside w v e made same in
       (ready_outside w v s (e ∷ []) r (ap (λ (x : Writer D F). x.token) made) (off, none, tt) (ap (λ (x : Writer D F). x.tally) made) (let c = ap (λ (x : Writer D F). x.calls) made in omega arith)
       (subst (λ ks. IsKept (counters_in host o) (host.place o.config.client) s.root ks s.arena) items r.arena)).0
+
+  -- once answers were given back
+  pub ready_given : {F : Type 0} (v v' : Writer D F) (s s' : HtState) → Ready host o v s → v' ≡ record v { waiting = [] } → s' ≡ record s { arena = s'.arena }
+      → IsKept (counters_in host o) (host.place o.config.client) s'.root (unreturned (state v'.token) v'.waiting) s'.arena → Ready host o v' s'
+  ready_given {F} v v' s s' r made lists kept =
+      let token : v.token ≡ v'.token = sym (ap (λ (x : Writer D F). x.token) made) in record {
+        lists = subst (λ (t : Token D). IsReady host o t s') token record { is_writer = r.lists.is_writer; is = r.lists.is; idles = r.lists.idles; reflects = with_arena (counters_in host o) l r.lists.is_writer s s' lists r.lists.reflects };
+        arena = kept;
+        tally = ap (λ (x : Writer D F). x.tally) made ∙ (r.tally ∙ ap (λ (t : Token D). length (knows host o t).log) token);
+        few = (let f = r.few in let a = ap (λ (x : Writer D F). x.tally) made in let b = ap (λ (x : Writer D F). x.calls) made in omega arith);
+      }

@@ -4,7 +4,7 @@ use Rattle.std.proofs.lemmas.List.{append_cancel_left}
 use Rattle.ck_run.specs.declared.account.Step.{Step}
 use Rattle.ck_run.specs.declared.account.Step.TheVariants.{Load}
 use Rattle.ck_run.specs.declared.account.Entry.{Entry}
-use Rattle.ck_run.specs.Run.{further}
+use Rattle.ck_run.specs.Run.{call, further}
 use Rattle.ck_run.specs.Machine.{state_after}
 use Rattle.ck_run.specs.Tokens.{adding, did, number}
 use Rattle.ck_run.proofs.Law.{state-append}
@@ -50,6 +50,10 @@ further_quiet (s ∷ ss) = ((λ r e. cc), further_quiet ss)
 pub opened_quiet : (opens : List ℕ) (ss : List Step) → OpensNone opens → AreQuiet (opened opens ss)
 opened_quiet opens [] h = tt
 opened_quiet opens (s ∷ ss) h = (h, further_quiet ss)
+
+pub call_quiet : (name : ℕ) (ss : List Step) → (name ≡ answered → ⊥) → AreQuiet (call name [] ss)
+call_quiet name [] other = tt
+call_quiet name (s ∷ ss) other = (none_named name [] other, further_quiet ss)
 
 module _ (o : Origin (Signals HtClient)) where
   abbrev l : Layout

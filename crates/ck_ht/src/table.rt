@@ -6,7 +6,9 @@ ghost use Rattle.ck_run.specs.declared.account.Step.TheVariants.{Store};
 ghost use Rattle.ck_run.specs.Run.{call};
 ghost use Rattle.ck_run.specs.Tokens.{table, adding};
 ghost use Rattle.ck_run.specs.Ends.{fresh};
-ghost use Rattle.ck_epoch.specs.State.{depth, active_word, end as ends, state as epochs};
+ghost use Rattle.ck_words.specs.Buddies.{free_words};
+ghost use Rattle.ck_epoch.specs.State.{depth, active_word, barrier as bars, end as ends, records_of, state as epochs};
+ghost use Rattle.ck_epoch.specs.Rounds.{Rounds};
 ghost use Rattle.ck_epoch.specs.Calls.{rec_of, Begins};
 ghost use Rattle.ck_epoch.specs.Closing.{AreFreshPasses};
 ghost use Rattle.ck_epoch.specs.Lists.{Answers};
@@ -24,7 +26,7 @@ ghost use Rattle.ck_htlaw.specs.Client.{table as table_client, is_region, home_o
 ghost use Rattle.ck_htlaw.specs.Host.{lies};
 ghost use Rattle.ck_htlaw.specs.Known.{knows};
 ghost use Rattle.ck_htlaw.specs.Law.{retries_of};
-ghost use Rattle.ck_htlaw.specs.Layout.{counters_of, table_words};
+ghost use Rattle.ck_htlaw.specs.Layout.{counters_of, log_of, table_words};
 ghost use Rattle.ck_htlaw.specs.Linearized.{map_after};
 ghost use Rattle.ck_htlaw.specs.Reached.{with_signals};
 ghost use Rattle.ck_htlaw.specs.Table.{WriterState};
@@ -38,6 +40,7 @@ ghost use Rattle.ck_ht.specs.Events.{answer_events, pass_events, hand_events};
 ghost use Rattle.ck_ht.specs.Getting.{Gets};
 ghost use Rattle.ck_ht.specs.Room.{IsRoomFor};
 
+use crate::giving::give_all;
 use crate::laws::settled_law;
 use ck_epoch::{Closed, Domain, Item, Pass, Writer};
 use ck_history::{Key, Look, Reply};
@@ -62,11 +65,9 @@ pub struct HtWriter<F> {
 
 impl<F> Model for HtWriter<F> {
     ghost use Rattle.ck_run.specs.Tokens.{origin};
-    ghost use Rattle.ck_htlaw.specs.Reached.{with_signals};
-    ghost use Rattle.ck_htwrite.specs.State.{Ready};
     ghost use Rattle.std.specs.Coded.{codes};
     ghost use Rattle.ck_htwrite.specs.contracts.state.HtState as lists;
-    ghost use Rattle.ck_ht.specs.Ends.{HtWriter as WriterOf};
+    ghost use Rattle.ck_ht.specs.Ends.{HtWriter as WriterOf, IsWriterReady};
 
     ghost Value = { WriterOf F };
 
@@ -74,7 +75,7 @@ impl<F> Model for HtWriter<F> {
 
     ghost view = { λ w. record { writer = w.writer; state = w.state } };
 
-    ghost invariant = { λ w. Ready with_signals (origin w.writer.token) w.writer w.state };
+    ghost invariant = { λ w. IsWriterReady (origin w.writer.token) w.writer w.state };
 }
 
 /// A hash table that threads share. Contracts see the table of its words.
@@ -314,6 +315,37 @@ impl Ht {
         ensures pending { (epochs w.new.writer.token).pending ≡ (epochs w.old.writer.token).pending }
     {
         ck_htwrite::remove(&self.domain, &mut w.writer, &mut w.state, key)
+    }
+
+    /// Waits until each section that is open now has ended, as `ck_epoch_barrier`, and gives all that was retired back to the arena. Answers how
+    /// many regions that were.
+    pub fn barrier<F: Fn(Item) -> Back, R: Wait>(&self, rt: &R, w: &mut HtWriter<F>) -> u64
+        requires table { table w.old.writer.token ≡ self.now }
+        requires calls { w.old.writer.calls < 2 ^ 40 }
+        requires handler { Answers (λ item. true) (λ item. home_of item) (F.pre w.old.writer.handler) (F.post w.old.writer.handler) }
+        ensures same { w.new.writer ≡ record w.old.writer { token = w.new.writer.token; calls = w.old.writer.calls + 1 } }
+        ensures table { table w.new.writer.token ≡ table w.old.writer.token }
+        ensures steps { Rounds (records_of self.now.origin) bars (epochs w.old.writer.token).epoch w.old.writer.token w.new.writer.token }
+        ensures log { (knows with_signals self.now.origin w.new.writer.token).log ≡ (knows with_signals self.now.origin w.old.writer.token).log }
+        ensures events { hand_events self.now.origin w.new.writer.token ≡ hand_events self.now.origin w.old.writer.token }
+        ensures pending { (epochs w.new.writer.token).pending ≡ [] }
+        ensures count { result ≡ length (epochs w.old.writer.token).pending }
+    {
+        give_all(&self.domain, rt, &mut w.writer, &mut w.state)
+    }
+
+    /// How many slots the map has now.
+    pub fn slots<F>(&self, w: &HtWriter<F>) -> u64
+        ensures { result ≡ 2 ^ log_of w.now.state.root }
+    {
+        w.state.slots()
+    }
+
+    /// How many words of the arena are free.
+    pub fn free_words<F>(&self, w: &HtWriter<F>) -> u64
+        ensures { result ≡ free_words w.now.state.arena }
+    {
+        w.state.free_words()
     }
 
     /// Tells the readers how many updates the log has.

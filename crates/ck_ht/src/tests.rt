@@ -18,6 +18,9 @@ fn an_empty_table_has_no_key(rt: HostRuntime) -> Result<(), Fail> {
     assert_eq!(rt; table.answered(&mut writer, 0), 2);
     assert_eq!(rt; table.reached(&mut pass, 1), Err(0));
     assert_eq!(rt; table.remove(&mut writer, key), Reply::Missing);
+    assert_eq!(rt; table.barrier(&rt, &mut writer), 0);
+    assert_eq!(rt; table.slots(&writer), 8);
+    assert_eq!(rt; table.free_words(&writer), 8_388_576);
     table.mark(&mut writer);
     assert_eq!(rt; table.reached(&mut pass, 1), Ok(()));
     Ok(())

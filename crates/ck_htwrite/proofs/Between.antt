@@ -27,7 +27,7 @@ use Rattle.ck_htlaw.specs.Linearized.{map_after}
 use Rattle.ck_htlaw.specs.Known.{knows}
 use Rattle.ck_htwrite.specs.declared.state.HtState.{HtState}
 use Rattle.ck_htwrite.specs.declared.state.Need.{Need}
-use Rattle.ck_htwrite.specs.Arena.{HasNoneFree, IsKept, unreturned}
+use Rattle.ck_htwrite.specs.Arena.{HasNoneFree, IsKept, MayAddRegion, unreturned}
 use Rattle.ck_htwrite.specs.State.{IsReady, Ready, counter_at, next_count}
 use Rattle.ck_htplan.specs.declared.cases.Plan.{Plan}
 use Rattle.ck_htwrite.specs.Updates.{IsDone, IsGrown, IsMade, IsOver, IsRebuildDue, Makes, needed_log}
@@ -171,6 +171,12 @@ module _ {D : Type 0} (h : Host D) (within : IsWithin table h.client h.place h.p
     done_pending = ⊎_elim
         (λ (x : Made). let e = ap (λ (ks : List Retirement). length ks) x.0.made.same.0 in omega arith)
         (λ (x : Grown). let e = x.retired in omega arith)
+        done
+
+    pub done_items : MayAddRegion n (h.place o.config.client) (unreturned (state w.token) w.waiting) (unreturned (state w'.token) w'.waiting)
+    done_items = ⊎_elim
+        (λ (x : Made). inl (λ i. unreturned (record (state w'.token) { pending = x.0.made.same.0 i; dispatched = x.0.made.same.1 i }) ((ap (λ (v : Writer D F). v.waiting) x.0.made.made) i)))
+        (λ (x : Grown). inr x.items)
         done
 
     pub done_ready : (tally : ℕ) → tally ≡ w'.tally + 1 → Ready h o (record w' { calls = w'.calls + 1; tally = tally }) s'

@@ -29,7 +29,7 @@ use Rattle.ck_htlaw.specs.Linearized.{map_after}
 use Rattle.ck_htlaw.specs.Known.{knows}
 use Rattle.ck_htwrite.specs.declared.state.HtState.{HtState}
 use Rattle.ck_htwrite.specs.declared.state.Need.{Need}
-use Rattle.ck_htwrite.specs.Arena.{HasNoneFree, IsKept, unreturned}
+use Rattle.ck_htwrite.specs.Arena.{AddsRegion, HasNoneFree, IsKept, unreturned}
 use Rattle.ck_htwrite.specs.Rebuild.{Rebuilt, rebuild_entries}
 use Rattle.ck_htwrite.specs.State.{IsReady}
 use Rattle.ck_htwrite.specs.Updates.{AddsFresh, IsGrown, IsNeeded, IsOver, MayBegin, insert_steps, inserted_lists, needed_log, settled}
@@ -92,9 +92,9 @@ module _ {D F : Type 0} (h : Host D) (within : IsWithin table h.client h.place h
           (insert_over floor (first h o) client q s1 b.lists [] begins key value at low does (knows h o w1.token) answer (knows h o w.token).log b.at was)))
 
       pub grown_whole : (stores : List Step) (epoch : ℕ) → es ≡ rebuild_entries l opens s.root s1.root stores epoch → 3 * 2 ^ log_of s.root < 4 * (s.keys + s.tombstones + 1) → log ≡ rebuilt_log (log_of s.root) s.keys → (HasNoneFree s.arena (log + 2) → ⊥)
-          → length (state w1.token).pending ≡ length (state w.token).pending + 1 → IsKept n (h.place o.config.client) s1.root (unreturned (state w1.token) w1.waiting) s1.arena
+          → length (state w1.token).pending ≡ length (state w.token).pending + 1 → AddsRegion n (h.place o.config.client) (unreturned (state w.token) w.waiting) (unreturned (state w1.token) w1.waiting) → IsKept n (h.place o.config.client) s1.root (unreturned (state w1.token) w1.waiting) s1.arena
           → IsGrown h o p (added l p) (Empty old_at) opens key value w Fresh w2 s s2
-      grown_whole stores epoch are full log_is free retired kept =
+      grown_whole stores epoch are full log_is free retired added kept =
           let fits = room floor (first h o) client p s r.reflects few in
           let needed : log + 2 ≡ needed_log l p = ap (λ (k : ℕ). k + 2) (log_is ∙ log_now floor (first h o) client p s r.reflects) in
           record {
@@ -112,6 +112,7 @@ module _ {D F : Type 0} (h : Host D) (within : IsWithin table h.client h.place h
             made = steps.made ∙ (ap (λ (v : Writer D F). record v { token = adding v.token (map further (insert_steps l s1.root at key value)) }) made ∙ ap (λ (t : Token D). record w { token = t; calls = w.calls + 1 }) (adding-append w.token es (map further (insert_steps l s1.root at key value))));
             is_token = steps.is_token;
             retired = ap (λ (xs : List Retirement). length xs) steps.same.0 ∙ retired;
+            items = (added.0, added.1, ap (λ (v : Writer D F). unreturned (state w2.token) v.waiting) steps.made ∙ (λ i. unreturned (record (state w2.token) { pending = steps.same.0 i; dispatched = steps.same.1 i }) w1.waiting) ∙ added.2);
             over = over;
             arena = subst (λ (x : HtState). IsKept n (h.place o.config.client) x.root (unreturned (state w2.token) w2.waiting) x.arena) (sym is)
                 (subst (λ ks. IsKept n (h.place o.config.client) s1.root ks s1.arena) (λ i. unreturned (record (state w2.token) { pending = sym steps.same.0 i; dispatched = sym steps.same.1 i }) (sym (ap (λ (v : Writer D F). v.waiting) steps.made) i)) kept);

@@ -26,3 +26,4 @@ pub mod Rebuilding
 pub mod Tidies
 pub mod Growing
 pub mod Grown
+pub mod Giving

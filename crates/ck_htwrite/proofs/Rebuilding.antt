@@ -14,7 +14,8 @@ use Rattle.ck_htlaw.specs.Layout.{at_of, log_of, region_item, IsTableItem, IsFre
 use Rattle.ck_htlaw.specs.Known.{IsRoot}
 use Rattle.ck_htlaw.specs.Table.{Layout, WriterState}
 use Rattle.ck_htwrite.specs.declared.state.HtState.{HtState}
-use Rattle.ck_htwrite.specs.Arena.{region_piece, unreturned, IsKept}
+use Rattle.ck_htlaw.proofs.Arena.{item_inside}
+use Rattle.ck_htwrite.specs.Arena.{region_piece, unreturned, AddsRegion, IsKept}
 use Rattle.ck_htwrite.specs.State.{Reflects}
 use Rattle.ck_htwrite.specs.Rebuild.{HoldKeysOnce, CanHoldAll}
 use Rattle.ck_words.proofs.Members.{adds as adds_piece}
@@ -60,6 +61,15 @@ with_arena n l p s z is r = let m = r.mirrors in subst (λ (y : HtState). Reflec
 pub unreturned_more : (t u : TokenState) (waiting : List Back) (k : Retired) → queue u.pending ≡ queue t.pending ++ k ∷ [] → u.dispatched ≡ t.dispatched → unreturned u waiting ≡ unreturned t waiting ++ k ∷ []
 unreturned_more t u waiting k pending dispatched =
     (λ i. drop (length (dispatched i) - length waiting) (queue (dispatched i)) ++ pending i) ∙ sym (append_assoc (drop (length t.dispatched - length waiting) (queue t.dispatched)) (queue t.pending) (k ∷ []))
+
+-- which is a region of the table
+pub adds_region : (n place old : ℕ) (t0 t2 t3 : TokenState) (waiting waiting' : List Back) (k : Retired) → IsRoot n old → k.item ≡ region_item place old → t2.pending ≡ t0.pending → t2.dispatched ≡ t0.dispatched → queue t3.pending ≡ queue t2.pending ++ k ∷ [] → t3.dispatched ≡ t2.dispatched → waiting' ≡ waiting
+    → AddsRegion n place (unreturned t0 waiting) (unreturned t3 waiting')
+adds_region n place old t0 t2 t3 waiting waiting' k ok item pending dispatched more still same = (
+  k,
+  subst (IsTableItem n place) (sym item) (item_inside n place old ok.piece),
+  ap (unreturned t3) same ∙ (unreturned_more t2 t3 waiting k more still ∙ (λ i. drop (length (dispatched i) - length waiting) (queue (dispatched i)) ++ queue (pending i) ++ k ∷ [])),
+)
 
 -- the arena after it
 pub kept_after : (n place old root : ℕ) (t0 t2 t3 : TokenState) (waiting waiting' : List Back) (a b : Arena) (k : Retired) → IsKept n place old (unreturned t0 waiting) a → ¬ IsPieceOut a (region_piece root) → b ≡ with_pieces_out a (set.insert a.out (region_piece root)) → k.item ≡ region_item place old

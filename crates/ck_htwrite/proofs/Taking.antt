@@ -4,7 +4,7 @@ use Rattle.std.specs.Prelude.{All}
 use Rattle.std.proofs.lemmas.Bool.{cases_lt}
 use Rattle.std.proofs.lemmas.Nat.{pow_pos}
 use Rattle.std.proofs.Math.Nat.{pow-le-pow_right}
-use Rattle.std.proofs.lemmas.List.Elements.{All-nil, All-cons, All-head, All-append, All-tail, All-weaker}
+use Rattle.std.proofs.lemmas.List.Elements.{All-nil, All-cons, All-head, All-append, All-tail, All-weaker, Contains-append_left, Contains-push}
 use Rattle.ck_words.specs.Buddies.{Arena, Piece, piece, IsPieceOut, IsFree, IsAlignedIn, ArePiecesApart, AddsPiece, DropsPiece}
 use Rattle.ck_epoch.specs.declared.item.Item.{Item}
 use Rattle.ck_epoch.specs.declared.item.Retired.{Retired}
@@ -130,4 +130,5 @@ module _ (n place old root : ℕ) (items : List Retired) (a b : Arena) (k : Reti
     present = (adds (region_piece root)).1 (inl refl);
     retired = All-append IsOther items (k ∷ []) others (All-cons IsOther k [] last (All-nil IsOther));
     once = once_more items kept.retired kept.once;
+    only = λ p out. ⊎_elim (λ e. inl e) (λ was. inr (⊎_elim (λ e. (k, Contains-push items k, piece_of ∙ sym e)) (λ w. (w.0, Contains-append_left items (k ∷ []) w.0 w.1, w.2)) (kept.only p was))) ((adds p).0 out);
   }

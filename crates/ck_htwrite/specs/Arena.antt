@@ -1,5 +1,6 @@
 -- What the writer's arena says of its account: which pieces are out, and why.
-use Rattle.std.specs.Prelude.{◌≡◌, ◌≢◌, ℕ, ◌+◌, ◌-◌, ◌^◌, List, [], ◌∷◌, ◌++◌, length, drop, All}
+use Rattle.std.specs.Prelude.{◌≡◌, ◌≢◌, ◌⊎◌, ℕ, ◌+◌, ◌-◌, ◌^◌, List, [], ◌∷◌, ◌++◌, length, drop, All}
+use Rattle.std.specs.List.{Contains}
 use Rattle.ck_words.specs.declared.back.Back.{Back}
 use Rattle.ck_words.specs.Buddies.{Piece, piece, Arena, IsPieceOut, IsAlignedIn, HasWordOut}
 use Rattle.ck_epoch.specs.declared.item.Retired.{Retired}
@@ -29,12 +30,26 @@ pub record IsArenaOfTable (counters : ℕ) (a : Arena) : Type 0 where
   pub long : 2 ^ a.log_len ≡ arena_words counters
   pub log_min : a.log_min ≡ 5
 
--- The present region is a piece that is out. So is each item of the table that isn't given back, and these are others, each once
+-- The present region is a piece that is out. So is each item of the table that isn't given back, and these are others, each once. Nothing else
+-- is out
 pub record IsKept (counters place root : ℕ) (items : List Retired) (a : Arena) : Type 0 where
   pub of_table : IsArenaOfTable counters a
   pub present : IsPieceOut a (region_piece root)
   pub retired : All (λ (k : Retired). IsTableItem counters place k.item → IsPieceOut a (retired_piece place k) × (retired_piece place k ≢ region_piece root)) items
   pub once : AreOnce counters place items
+  pub only : (p : Piece) → IsPieceOut a p → (p ≡ region_piece root) ⊎ ((k : Retired) × Contains items k × (retired_piece place k ≡ p))
+
+-- all of these are items of the table
+abbrev pub AreTableItems : ℕ → ℕ → List Retired → Type 0
+AreTableItems counters place items = All (λ (k : Retired). IsTableItem counters place k.item) items
+
+-- a region of the table more isn't given back
+abbrev pub AddsRegion : ℕ → ℕ → List Retired → List Retired → Type 0
+AddsRegion counters place before after = (k : Retired) × IsTableItem counters place k.item × (after ≡ before ++ k ∷ [])
+
+-- the same items aren't given back, or a region of the table more
+abbrev pub MayAddRegion : ℕ → ℕ → List Retired → List Retired → Type 0
+MayAddRegion counters place before after = (after ≡ before) ⊎ AddsRegion counters place before after
 
 -- every range of this length at a multiple of it has a word that is out
 abbrev pub HasNoneFree : Arena → ℕ → Type 0

@@ -26,7 +26,7 @@ use Rattle.ck_htlaw.specs.Host.{Host, lies}
 use Rattle.ck_htlaw.specs.Known.{knows}
 use Rattle.ck_htwrite.specs.declared.state.HtState.{HtState}
 use Rattle.ck_htwrite.specs.declared.state.Need.{Need}
-use Rattle.ck_htwrite.specs.Arena.{HasNoneFree, IsKept, unreturned}
+use Rattle.ck_htwrite.specs.Arena.{AddsRegion, HasNoneFree, IsKept, unreturned}
 use Rattle.ck_htwrite.specs.Rebuild.{rebuild_entries}
 use Rattle.ck_htwrite.specs.State.{counter_at, next_count, Mirrors, Reflects}
 use Rattle.ck_htwrite.specs.Writes.{counters_in, opened, Steps, WriterAt}
@@ -212,6 +212,7 @@ module _ {D : Type 0} (h : Host D) (o : Origin D) (p : WriterState) where
     pub made : w' ≡ record w { token = adding w.token entries; calls = w.calls + 1 }
     pub is_token : IsDomainToken h.client w'.token
     pub retired : length (state w'.token).pending ≡ length (state w.token).pending + 1
+    pub items : AddsRegion (counters_in h o) (h.place o.config.client) (unreturned (state w.token) w.waiting) (unreturned (state w'.token) w'.waiting)
     pub over : IsOver (counters_in h o) (lies h o) (knows h o w'.token) (answer_to (lies h o) p (opening_of opens)) (knows h o w.token).log s'
     pub arena : IsKept (counters_in h o) (h.place o.config.client) s'.root (unreturned (state w'.token) w'.waiting) s'.arena
 

@@ -18,7 +18,7 @@ ghost use Rattle.ck_htlaw.specs.Stages.{idle, after_rebuild};
 ghost use Rattle.ck_htlaw.specs.Table.{WriterState};
 ghost use Rattle.ck_htwrite.specs.Rebuild.{BeginsRebuildAt, CanHoldAll, CopiesAt, GoesOnAfter, EndsAfter, HoldKeysOnce, Rebuilt, adopted_lists, rebuild_entries};
 ghost use Rattle.ck_htplan.specs.Region.{view_of};
-ghost use Rattle.ck_htwrite.specs.Arena.{unreturned, IsKept, HasNoneFree};
+ghost use Rattle.ck_htwrite.specs.Arena.{unreturned, AddsRegion, IsKept, HasNoneFree};
 ghost use Rattle.ck_htwrite.specs.State.{IsReady, Reflects};
 ghost use Rattle.ck_htwrite.specs.Writes.{counters_in, opened, IsFreeBy, Steps, WriterAt, WriterIs};
 
@@ -120,6 +120,7 @@ pub(crate) fn rebuild<D: Within<HtClient>, F, O: Opens>(
     ensures need { IfErr result (λ need. (need ≡ record { shelf = 0; log = log + 2 }) × (writer.new ≡ writer.old) × (state.new ≡ state.old)) }
     ensures steps { IfOk result (λ u. (n : ℕ) × (ss : List Step) × (writer.new ≡ record writer.old { token = adding writer.old.token (rebuild_entries (lies (host D.meaning D.place D.part) domain.now.origin) O.opens state.old.root state.new.root ss n); calls = writer.old.calls + 1 })) }
     ensures retired { IfOk result (λ u. length (epochs_of writer.new.token).pending ≡ length (epochs_of writer.old.token).pending + 1) }
+    ensures items { IfOk result (λ u. AddsRegion (counters_in (host D.meaning D.place D.part) domain.now.origin) (D.place domain.now.origin.config.client) (unreturned (epochs_of writer.old.token) writer.old.waiting) (unreturned (epochs_of writer.new.token) writer.new.waiting)) }
     ensures lists { IfOk result (λ u. (state.new.keys ≡ state.old.keys) × (state.new.tombstones ≡ 0) × (log_of state.new.root ≡ log)) }
     ensures goes_on { IfOk result (λ u. (r : IsReady (host D.meaning D.place D.part) domain.now.origin writer.old.token state.old) → ((root : ℕ) → log_of root ≡ log → BeginsRebuildAt (lies (host D.meaning D.place D.part) domain.now.origin) r.is_writer O.opens root) → GoesOnAfter (lies (host D.meaning D.place D.part) domain.now.origin) O.opens
         → Rebuilt (counters_in (host D.meaning D.place D.part) domain.now.origin) (lies (host D.meaning D.place D.part) domain.now.origin) (knows (host D.meaning D.place D.part) domain.now.origin writer.new.token) (after_rebuild O.opens) (answer_to (lies (host D.meaning D.place D.part) domain.now.origin) r.is_writer (opening_of O.opens)) (knows (host D.meaning D.place D.part) domain.now.origin writer.old.token).log state.new) }

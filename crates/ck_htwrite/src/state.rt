@@ -1,7 +1,7 @@
 //! The writer's own lists.
 ghost use Rattle.std.specs.Prelude.{◌≡◌, ◌≢◌, ◌*◌, ◌+◌, ◌-◌, ◌≤◌, ◌^◌, ◌↔◌, IfOk, IfErr, IsErr, [], length, replicate};
 ghost use Rattle.std.specs.FinSet as set;
-ghost use Rattle.ck_words.specs.Buddies.{piece, with_pieces_out, IsPieceOut, IsFree};
+ghost use Rattle.ck_words.specs.Buddies.{piece, with_pieces_out, free_words, ArePiecesApart, IsPieceOut, IsFree};
 ghost use Rattle.ck_htlaw.specs.Layout.{arena, arena_words, counters_of, log_of};
 ghost use Rattle.ck_htlaw.specs.Known.{IsRoot};
 ghost use Rattle.ck_htwrite.specs.Arena.{region_piece, IsArenaOfTable, IsKept, HasNoneFree};
@@ -101,6 +101,22 @@ impl HtState {
             counters: vec![in alloc; 0; counters as usize]?,
             arena,
         })
+    }
+
+    /// How many slots the present region has.
+    pub fn slots(&self) -> u64
+        requires few { log_of self.now.root ≤ 19 }
+        ensures { result ≡ 2 ^ log_of self.now.root }
+    {
+        1 << (self.root % 32)
+    }
+
+    /// How many words of the arena are free.
+    pub fn free_words(&self) -> u64
+        ensures count { result ≡ free_words self.now.arena }
+        ensures apart { ArePiecesApart self.now.arena }
+    {
+        self.arena.free()
     }
 
     /// Takes back a region that was retired since it was taken, once the domain has given its answer. It is free then.

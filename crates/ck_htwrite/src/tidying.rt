@@ -12,7 +12,7 @@ ghost use Rattle.ck_htlaw.specs.Host.{host, lies};
 ghost use Rattle.ck_htlaw.specs.Known.{knows};
 ghost use Rattle.ck_htlaw.specs.Layout.{log_of};
 ghost use Rattle.ck_htlaw.specs.Stages.{idle};
-ghost use Rattle.ck_htwrite.specs.Arena.{unreturned, IsKept, HasNoneFree};
+ghost use Rattle.ck_htwrite.specs.Arena.{unreturned, IsKept, HasNoneFree, MayAddRegion};
 ghost use Rattle.ck_htwrite.specs.Rebuild.{AreTidying, HoldKeysOnce, Rebuilt};
 ghost use Rattle.ck_htwrite.specs.State.{IsReady, Ready};
 ghost use Rattle.ck_htwrite.specs.Writes.{counters_in};
@@ -43,6 +43,7 @@ fn tidy_map<D: Within<HtClient>, F, O: Opens>(
     ensures need { IfErr result (λ need. (need ≡ record { shelf = 0; log = log_of state.old.root + 2 }) × (writer.new ≡ writer.old) × (state.new ≡ state.old)) }
     ensures steps { IfOk result (λ u. (es : List Entry) × (k : ℕ) × (k ≤ 1) × AreTidying (lies (host D.meaning D.place D.part) domain.now.origin) O.opens state.old.tombstones state.old.root state.new.root es × (writer.new ≡ record writer.old { token = adding writer.old.token es; calls = writer.old.calls + k })) }
     ensures over { IfOk result (λ u. Rebuilt (counters_in (host D.meaning D.place D.part) domain.now.origin) (lies (host D.meaning D.place D.part) domain.now.origin) (knows (host D.meaning D.place D.part) domain.now.origin writer.new.token) idle (record { update = Tidy; reply = Tidied }) ((knows (host D.meaning D.place D.part) domain.now.origin writer.old.token).log ++ record { update = Tidy; reply = Tidied } ∷ []) state.new) }
+    ensures items { IfOk result (λ u. MayAddRegion (counters_in (host D.meaning D.place D.part) domain.now.origin) (D.place domain.now.origin.config.client) (unreturned (epochs writer.old.token) writer.old.waiting) (unreturned (epochs writer.new.token) writer.new.waiting)) }
     ensures lists { IfOk result (λ u. (state.new.keys ≡ state.old.keys) × (state.new.tombstones ≡ 0) × (log_of state.new.root ≡ log_of state.old.root)) }
     ensures arena { IfOk result (λ u. IsKept (counters_in (host D.meaning D.place D.part) domain.now.origin) (D.place domain.now.origin.config.client) state.new.root (unreturned (epochs writer.new.token) writer.new.waiting) state.new.arena) }
 {
@@ -71,6 +72,7 @@ pub fn tidy<D: Within<HtClient>, F>(
     ensures need { IfErr result (λ need. (need ≡ record { shelf = 0; log = log_of state.old.root + 2 }) × (writer.new ≡ writer.old) × (state.new ≡ state.old)) }
     ensures reply { IfOk result (λ r. r ≡ Tidied) }
     ensures log { IfOk result (λ r. (knows (host D.meaning D.place D.part) domain.now.origin writer.new.token).log ≡ (knows (host D.meaning D.place D.part) domain.now.origin writer.old.token).log ++ record { update = Tidy; reply = r } ∷ []) }
+    ensures items { IfOk result (λ r. MayAddRegion (counters_in (host D.meaning D.place D.part) domain.now.origin) (D.place domain.now.origin.config.client) (unreturned (epochs writer.old.token) writer.old.waiting) (unreturned (epochs writer.new.token) writer.new.waiting)) }
     ensures lists { IfOk result (λ r. (state.new.keys ≡ state.old.keys) × (state.new.tombstones ≡ 0) × (log_of state.new.root ≡ log_of state.old.root)) }
     ensures steps { IfOk result (λ r. (es : List Entry) × (k : ℕ) × (k ≤ 1) × AreTidying (lies (host D.meaning D.place D.part) domain.now.origin) (tidying ∷ []) state.old.tombstones state.old.root state.new.root es × (writer.new ≡ record writer.old { token = adding writer.old.token es; calls = writer.old.calls + k + 1; tally = writer.old.tally + 1 })) }
     ensures calls { writer.new.calls ≤ writer.old.calls + 2 }

@@ -10,6 +10,7 @@ use Rattle.ck_htlaw.specs.Calls.{opening_of, removing, remove}
 use Rattle.ck_htlaw.specs.Table.{WriterState}
 use Rattle.ck_htlaw.specs.Actions.{answer_to, plan_now, remove_reply}
 use Rattle.ck_htlaw.specs.Known.{knows}
+use Rattle.ck_htwrite.specs.Arena.{unreturned}
 use Rattle.ck_htwrite.specs.State.{Ready}
 use Rattle.ck_htwrite.specs.Updates.{RemoveSteps}
 use Rattle.ck_htwrite.specs.Writes.{opened}
@@ -57,6 +58,17 @@ returns-clause-pending g c =
     let planned = c.plan_for-plan.ensures.plan p r.reflects in
     let made = c.remove_by-reply.ensures.made r planned in
     ap (λ v. (state v.token).pending) c.set_tally.ensures ∙ made.made.same.0
+
+pub returns-clause-items : goal.returns-clause-items
+returns-clause-items g c =
+    let o = c.args.domain.now.origin in
+    let h = host g.D.Client.meaning g.D.Within.place g.D.Within.part in
+    let l = lies h o in let s = c.args.state.now in let w = c.args.writer.now in let t = w.token in let key : ℕ = c.args.key in
+    let same = ap (λ v. v.origin) c.requires.table in let writing = c.tally-updates.ensures.writing in
+    let ready = c.requires.ready in let r = ready.lists in let p = r.is_writer in
+    let planned = c.plan_for-plan.ensures.plan p r.reflects in
+    let made = c.remove_by-reply.ensures.made r planned in
+    ap (λ v. unreturned (state v.token) v.waiting) c.set_tally.ensures ∙ (λ i. unreturned (record (state c.remove_by-reply.new.writer.token) { pending = made.made.same.0 i; dispatched = made.made.same.1 i }) ((ap (λ v. v.waiting) made.made.made) i))
 
 pub returns-clause-reply : goal.returns-clause-reply
 returns-clause-reply g c =

@@ -12,12 +12,12 @@ use Rattle.ck_htlaw.specs.Table.{WriterState}
 use Rattle.ck_htlaw.specs.Actions.{plan_now, set_reply}
 use Rattle.ck_htlaw.specs.Known.{knows}
 use Rattle.ck_htwrite.specs.declared.state.Need.{Need}
-use Rattle.ck_htwrite.specs.Arena.{HasNoneFree}
+use Rattle.ck_htwrite.specs.Arena.{HasNoneFree, MayAddRegion, unreturned}
 use Rattle.ck_htwrite.specs.State.{Ready}
 use Rattle.ck_htwrite.specs.Updates.{SetSteps, IsNeeded, IsRebuildDue, Makes, needed_log}
-use Rattle.ck_htwrite.specs.Writes.{WriterIs}
+use Rattle.ck_htwrite.specs.Writes.{WriterIs, counters_in}
 use Rattle.ck_htwrite.proofs.Plans.{not_due_set}
-use Rattle.ck_htwrite.proofs.Between.{if_err, answers, small, same_writer, done_reply, done_over, done_made, done_calls, done_free, done_pending, done_ready}
+use Rattle.ck_htwrite.proofs.Between.{if_err, answers, small, same_writer, done_reply, done_over, done_made, done_calls, done_free, done_items, done_pending, done_ready}
 use Rattle.ck_htwrite.proofs.calls.set.Goals as goal
 
 pub set_by-requires-clause-calls : goal.set_by-requires-clause-calls
@@ -135,6 +135,19 @@ returns-clause-pending g c =
     let done = c.in_ok-reply.ensures.made r planned in let expected = set_reply l p plan in
     let Are : List Step → Type 0 = SetSteps l p key value plan in
     subst (λ v. length (state v.token).pending ≤ length (state w.token).pending + 1) (sym c.set_tally.ensures) (done_pending h g.met.D.Within.within o w w1 same writing.first s s1 ready expected reply Are plan (set ∷ key ∷ value ∷ []) key value done)
+
+pub returns-clause-items : goal.returns-clause-items
+returns-clause-items g c =
+    let o = c.args.domain.now.origin in
+    let h = host g.D.Client.meaning g.D.Within.place g.D.Within.part in
+    let l = lies h o in let s = c.args.state.now in let w = c.args.writer.now in let t = w.token in let key : ℕ = c.args.key in let value : ℕ = c.args.value in
+    let same = ap (λ v. v.origin) c.requires.table in let writing = c.tally-updates.ensures.writing in
+    let ready = c.requires.ready in let r = ready.lists in let p = r.is_writer in
+    let planned = c.plan_for-plan.ensures.plan p r.reflects in let plan = c.plan_for-plan.result in
+    let w1 = c.set_by.new.writer in let s1 = c.set_by.new.state in let reply = c.in_ok-reply.reply in
+    let done = c.in_ok-reply.ensures.made r planned in let expected = set_reply l p plan in
+    let Are : List Step → Type 0 = SetSteps l p key value plan in
+    subst (λ v. MayAddRegion (counters_in h o) (h.place o.config.client) (unreturned (state w.token) w.waiting) (unreturned (state v.token) v.waiting)) (sym c.set_tally.ensures) (done_items h g.met.D.Within.within o w w1 same writing.first s s1 ready expected reply Are plan (set ∷ key ∷ value ∷ []) key value done)
 
 pub returns-clause-free : goal.returns-clause-free
 returns-clause-free g c q is =

@@ -181,4 +181,4 @@ returns-clause-made g c r old_at planned =
     grown_whole h g.met.D.Within.within o w w1 same writing.part writing.first s s1 r opens key value old_at planned c.requires.adds c.requires.keys c.grown_log-log.result fit es ok.steps.2 ok.token ok.lists b
     c.in-Empty.at (c.plan_for.ensures.plan b.is_writer b.lists ∙ c.in-Empty.is) (subst (IsIn (2 ^ log_of s1.root)) c.in-Empty.is c.plan_for.ensures.inside)
     c.insert.new.writer c.insert.new.state c.insert.ensures.steps c.insert.ensures.state (subst (HasStates (view_of s1.words.items)) c.in-Empty.is c.plan_for.ensures.states)
-    ok.steps.1 ok.steps.0 refl c.requires.full c.grown_log-log.ensures (λ z. let y : false ≡ true = ok.none.1 z in absurd cc) ok.retired ok.arena
+    ok.steps.1 ok.steps.0 refl c.requires.full c.grown_log-log.ensures (λ z. let y : false ≡ true = ok.none.1 z in absurd cc) ok.retired ok.items ok.arena

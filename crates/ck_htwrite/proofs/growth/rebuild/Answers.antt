@@ -12,7 +12,7 @@ use Rattle.ck_htwrite.specs.Arena.{IsArenaOfTable, IsKept, unreturned}
 use Rattle.ck_htwrite.specs.Rebuild.{CopiesAt, adopted_lists, rebuild_entries}
 use Rattle.ck_htwrite.specs.Writes.{counters_in}
 use Rattle.ck_htwrite.proofs.Chains.{same_room, then_counted, one_retired}
-use Rattle.ck_htwrite.proofs.Rebuilding.{free_region, can_hold, with_arena, kept_after}
+use Rattle.ck_htwrite.proofs.Rebuilding.{adds_region, free_region, can_hold, with_arena, kept_after}
 use Rattle.ck_htwrite.proofs.growth.rebuild.Goals as goal
 
 pub take-requires-clause-table : goal.take-requires-clause-table
@@ -91,6 +91,15 @@ pub returns-clause-retired : goal.returns-clause-retired
 returns-clause-retired g c =
     let k = c.replace.ensures.retired in
     one_retired (state c.build.new.writer.token).pending (state c.replace.new.writer.token).pending k.0 k.2 ∙ ap (λ (xs : List Retirement). length xs + 1) c.build.ensures.steps.1.same.0
+
+pub returns-clause-items : goal.returns-clause-items
+returns-clause-items g c =
+    let h = host g.D.Client.meaning g.D.Within.place g.D.Within.part in let o = c.args.domain.now.origin in let place = h.place o.config.client in let w0 = c.args.writer.now in let s = c.args.state.now in
+    let w2 = c.build.new.writer in let w3 = c.replace.new.writer in let made = c.build.ensures.steps.1 in let k = c.replace.ensures.retired in
+    let roots : c.build.new.state.root ≡ s.root = ap (λ (x : HtState). x.root) c.build.ensures.state ∙ ap (λ (x : HtState). x.root) c.in_ok-root.ensures.after in
+    let item = subst (λ (m : ℕ). k.0.item ≡ region_item place m) roots k.1 in
+    let waits : w3.waiting ≡ w0.waiting = ap (λ x. x.waiting) c.replace.ensures.steps.1 ∙ ap (λ x. x.waiting) made.made in
+    adds_region (counters_in h o) place s.root (state w0.token) (state w2.token) (state w3.token) w0.waiting w3.waiting k.0 c.requires.due.0.reflects.mirrors.shape.is_root item made.same.0 made.same.1 k.2 k.3 waits
 
 pub returns-clause-lists : goal.returns-clause-lists
 returns-clause-lists g c =

@@ -2,6 +2,8 @@ use Rattle.std.proofs.Common.{◌≡◌, ℕ, ◌+◌, ◌≤◌, length, length
 use Rattle.ck_run.specs.Tokens.{table}
 use Rattle.ck_htlaw.specs.Host.{host}
 use Rattle.ck_htlaw.specs.Known.{knows}
+use Rattle.ck_epoch.specs.State.{state}
+use Rattle.ck_htwrite.specs.Arena.{MayAddRegion, unreturned}
 use Rattle.ck_htwrite.specs.State.{Ready}
 use Rattle.ck_htwrite.specs.Writes.{counters_in}
 use Rattle.ck_htwrite.proofs.Between.{once}
@@ -26,6 +28,11 @@ pub returns-clause-log : goal.returns-clause-log
 returns-clause-log g c =
     let h = host g.D.Client.meaning g.D.Within.place g.D.Within.part in let o = c.args.domain.now.origin in let n = counters_in h o in let place = h.place o.config.client in let w = c.args.writer.now in let s = c.args.state.now in let ready = c.requires.ready in let r = ready.lists in
     ap (λ v. (knows h o v.token).log) c.set_tally.ensures ∙ c.in_ok-tidy_map.ensures.over.at.log
+
+pub returns-clause-items : goal.returns-clause-items
+returns-clause-items g c =
+    let h = host g.D.Client.meaning g.D.Within.place g.D.Within.part in let o = c.args.domain.now.origin in let w = c.args.writer.now in
+    subst (λ v. MayAddRegion (counters_in h o) (h.place o.config.client) (unreturned (state w.token) w.waiting) (unreturned (state v.token) v.waiting)) (sym c.set_tally.ensures) c.in_ok-tidy_map.ensures.items
 
 pub returns-clause-steps : goal.returns-clause-steps
 returns-clause-steps g c =

@@ -42,6 +42,11 @@ returns-then-state-eq0-clause-over g c =
       lists = record { root = over.root; mirrors = over.mirrors; bumped = over.bumped; hole = r.reflects.hole };
     }
 
+pub returns-then-state-eq0-clause-items : goal.returns-then-state-eq0-clause-items
+returns-then-state-eq0-clause-items g c =
+    let w = c.args.writer.now in let u = c.ask_root.new.writer in let step = c.ask_root.ensures.step in
+    inl (same_unreturned (state w.token) (state u.token) w.waiting u.waiting step.same.0 step.same.1 (ap (λ x. x.waiting) step.made))
+
 pub returns-then-state-eq0-clause-lists : goal.returns-then-state-eq0-clause-lists
 returns-then-state-eq0-clause-lists g c = (refl, c.if-state-eq0.true, refl)
 
@@ -90,3 +95,6 @@ returns-clause-over g c =
       stage_is = made.stage_is;
       lists = made.lists;
     }
+
+pub returns-clause-items : goal.returns-clause-items
+returns-clause-items g c = inr c.in_ok-rebuild.ensures.items

@@ -15,6 +15,6 @@ returns g c =
     let same = ap (λ (v : HtWriter g.row.F.Denot). v.writer.token) c.w.view_is in
     record {
       closed = subst (λ (t : Token (Signals HtClient)). IsClosedTable t c.args.passes.items c.close.result.words.items) same
-          (is_closed c.signals_law.ensures c.table_law.ensures c.places_law.ensures c.settled_law.ensures c.w.inside.writer.token c.args.passes.items c.close.result.words.items c.close.ensures.run (c.w.invariant.lists.is_writer, c.w.invariant.lists.is, c.w.invariant.lists.idles)
+          (is_closed c.signals_law.ensures c.table_law.ensures c.places_law.ensures c.settled_law.ensures c.w.inside.writer.token c.args.passes.items c.close.result.words.items c.close.ensures.run (c.w.invariant.ready.lists.is_writer, c.w.invariant.ready.lists.is, c.w.invariant.ready.lists.idles)
           (subst (λ (o : Origin (Signals HtClient)). All (λ (p : Pass (Signals HtClient)). IsPassReady o p) c.args.passes.items) (sym (ap (λ t. origin t) same ∙ ap (λ d. d.origin) c.requires.writer)) c.requires.ready));
     }

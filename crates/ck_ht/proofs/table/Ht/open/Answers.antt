@@ -1,12 +1,17 @@
 use Rattle.std.proofs.Common.{◌≡◌, ℕ, ◌+◌, ◌*◌, [], replicate, ap, ◌∙◌, sym, subst}
 use Rattle.ck_run.specs.Tokens.{origin}
-use Rattle.ck_epoch.specs.State.{Origin, Token}
+use Rattle.ck_epoch.specs.State.{Origin, Token, state}
 use Rattle.ck_signal.specs.declared.signals.Signals.{Signals}
 use Rattle.ck_htlaw.specs.declared.client.HtClient.{HtClient}
-use Rattle.ck_htlaw.specs.Layout.{arena, counters_of}
+use Rattle.ck_htlaw.specs.Layout.{arena, counters_of, IsTableItem}
 use Rattle.ck_htlaw.specs.Reached.{with_signals}
-use Rattle.ck_htwrite.specs.Arena.{IsKept}
-use Rattle.ck_htwrite.specs.State.{IsShaped, Ready}
+use Rattle.std.proofs.lemmas.List.Elements.{All-nil}
+use Rattle.ck_epoch.specs.declared.item.Retired.{Retired}
+use Rattle.ck_epoch.specs.Ends.{Writer}
+use Rattle.ck_htwrite.specs.Arena.{AreTableItems, IsKept, unreturned}
+use Rattle.ck_htwrite.specs.Writes.{counters_in}
+use Rattle.ck_ht.specs.Ends.{IsWriterReady}
+use Rattle.ck_htwrite.specs.State.{IsShaped}
 use Rattle.ck_htwrite.proofs.Opened.{opened_ready}
 use Rattle.ck_ht.proofs.AtOpening.{all_made, all_ready, none_done}
 use Rattle.ck_ht.proofs.Settling.{is_within}
@@ -17,11 +22,15 @@ invariant_of-result-2 g c =
     let d = c.in_ok-domain in let s = c.in_ok-state in
     let is = ap (λ v. v.token) d.ensures.writer in
     let many : counters_of c.args.client ≡ counters_of d.domain.origin.config.client.client = ap counters_of (sym (ap (λ a. a.client.client) d.ensures.about ∙ c.new-signals.ensures.0)) in
-    subst (λ (o : Origin (Signals HtClient)). Ready with_signals o d.writer s.state) (sym (ap (λ (t : Token (Signals HtClient)). origin t) is))
-    (opened_ready with_signals is_within d.domain d.ensures.words.1 d.writer is (ap (λ w. w.waiting) d.ensures.writer) (ap (λ w. w.tally) d.ensures.writer) s.state
-    (subst (λ (n : ℕ). IsShaped n s.state) many s.ensures.shape) (ap (λ x. x.root) s.ensures.state ∙ ap (λ (n : ℕ). 32 * arena n + 3) many) (ap (λ x. x.keys) s.ensures.state) (ap (λ x. x.tombstones) s.ensures.state)
-    s.ensures.words (s.ensures.counters ∙ ap (λ (n : ℕ). replicate n 0) many)
-    (subst (λ (n : ℕ). (place : ℕ) → IsKept n place s.state.root [] s.state.arena) many s.ensures.arena))
+    subst (λ (o : Origin (Signals HtClient)). IsWriterReady o d.writer s.state) (sym (ap (λ (t : Token (Signals HtClient)). origin t) is)) record {
+      own = subst (λ (w : Writer (Signals HtClient) g.row.F.Denot). AreTableItems (counters_in with_signals d.domain.origin) 0 (unreturned (state w.token) w.waiting)) (sym d.ensures.writer) (All-nil (λ (k : Retired). IsTableItem (counters_in with_signals d.domain.origin) 0 k.item));
+      given = ap (λ w. w.waiting) d.ensures.writer;
+      room = ap (λ w. w.room) d.ensures.writer;
+      ready = (opened_ready with_signals is_within d.domain d.ensures.words.1 d.writer is (ap (λ w. w.waiting) d.ensures.writer) (ap (λ w. w.tally) d.ensures.writer) s.state
+          (subst (λ (n : ℕ). IsShaped n s.state) many s.ensures.shape) (ap (λ x. x.root) s.ensures.state ∙ ap (λ (n : ℕ). 32 * arena n + 3) many) (ap (λ x. x.keys) s.ensures.state) (ap (λ x. x.tombstones) s.ensures.state)
+          s.ensures.words (s.ensures.counters ∙ ap (λ (n : ℕ). replicate n 0) many)
+          (subst (λ (n : ℕ). (place : ℕ) → IsKept n place s.state.root [] s.state.arena) many s.ensures.arena));
+    }
 
 pub returns-clause-made : goal.returns-clause-made
 returns-clause-made g c = let d = c.in_ok-domain in all_made d.domain d.passes.items d.ensures.passes.1

@@ -3,7 +3,7 @@ use Rattle.std.specs.Ordering.{nat_cmp}
 use Rattle.ck_run.specs.declared.account.Step.{Step}
 use Rattle.ck_run.specs.Tokens.{Table, origin, adding}
 use Rattle.ck_epoch.specs.declared.about.About.{About}
-use Rattle.ck_epoch.specs.State.{Origin}
+use Rattle.ck_epoch.specs.State.{Origin, state}
 use Rattle.ck_epoch.specs.Ends.{Writer}
 use Rattle.ck_signal.specs.declared.signals.Signals.{Signals}
 use Rattle.ck_history.specs.Map.{step}
@@ -17,10 +17,11 @@ use Rattle.ck_htlaw.specs.Known.{knows}
 use Rattle.ck_htlaw.specs.Linearized.{map_after}
 use Rattle.ck_htlaw.specs.Reached.{with_signals}
 use Rattle.ck_htlaw.specs.Table.{WriterState}
+use Rattle.ck_htwrite.specs.Arena.{AreTableItems, unreturned}
 use Rattle.ck_htwrite.specs.State.{Ready}
 use Rattle.ck_htwrite.specs.Updates.{RemoveSteps}
-use Rattle.ck_htwrite.specs.Writes.{WriterIs, opened}
-use Rattle.ck_ht.specs.Ends.{HtWriter}
+use Rattle.ck_htwrite.specs.Writes.{WriterIs, counters_in, opened}
+use Rattle.ck_ht.specs.Ends.{HtWriter, IsWriterReady}
 use Rattle.ck_ht.specs.Events.{hand_events}
 use Rattle.ck_ht.proofs.UpdateEvents.{none_named, opened_quiet, updates_are_events}
 use Rattle.ck_ht.proofs.table.Ht.remove.Goals as goal
@@ -28,12 +29,19 @@ use Rattle.ck_ht.proofs.table.Ht.remove.Goals as goal
 pub remove-requires-clause-ready : goal.remove-requires-clause-ready
 remove-requires-clause-ready g c =
     let at : origin c.w.inside.writer.token ≡ c.self.inside.domain.origin = ap (λ (v : HtWriter g.row.F.Denot). origin v.writer.token) c.w.view_is ∙ (ap (λ d. d.origin) c.requires.table ∙ sym (ap (λ d. d.origin) c.self.view_is)) in
-    subst (λ (o : Origin (Signals HtClient)). Ready with_signals o c.w.inside.writer c.w.inside.state) at c.w.invariant
+    subst (λ (o : Origin (Signals HtClient)). Ready with_signals o c.w.inside.writer c.w.inside.state) at c.w.invariant.ready
 
 pub invariant_of-w : goal.invariant_of-w
 invariant_of-w g c =
     let at : c.self.inside.domain.origin ≡ origin c.remove.new.writer.token = ap (λ d. d.origin) c.self.view_is ∙ (sym (ap (λ d. d.origin) c.requires.table) ∙ (sym (ap (λ (v : HtWriter g.row.F.Denot). origin v.writer.token) c.w.view_is) ∙ sym (ap (λ d. d.origin) c.remove.ensures.table))) in
-    subst (λ (o : Origin (Signals HtClient)). Ready with_signals o c.remove.new.writer c.remove.new.state) at c.remove.ensures.ready
+    let w = c.w.inside.writer in
+    let from : origin w.token ≡ c.self.inside.domain.origin = ap (λ (v : HtWriter g.row.F.Denot). origin v.writer.token) c.w.view_is ∙ (ap (λ d. d.origin) c.requires.table ∙ sym (ap (λ d. d.origin) c.self.view_is)) in
+    subst (λ (o : Origin (Signals HtClient)). IsWriterReady o c.remove.new.writer c.remove.new.state) at record {
+      ready = c.remove.ensures.ready;
+      own = subst (AreTableItems (counters_in with_signals c.self.inside.domain.origin) 0) (sym c.remove.ensures.items) (subst (λ (o : Origin (Signals HtClient)). AreTableItems (counters_in with_signals o) 0 (unreturned (state w.token) w.waiting)) from c.w.invariant.own);
+      given = ap (λ v. v.waiting) c.remove.ensures.same ∙ c.w.invariant.given;
+      room = ap (λ v. v.room) c.remove.ensures.same ∙ c.w.invariant.room;
+    }
 
 pub returns-clause-reply : goal.returns-clause-reply
 returns-clause-reply g c =
@@ -57,7 +65,7 @@ returns-clause-events g c =
     let same = ap (λ (v : HtWriter g.row.F.Denot). v.writer) c.w.view_is in
     let o = c.self.inside.domain.origin in
     let at : origin w.token ≡ o = ap (λ (v : HtWriter g.row.F.Denot). origin v.writer.token) c.w.view_is ∙ (ap (λ d. d.origin) c.requires.table ∙ sym (ap (λ d. d.origin) c.self.view_is)) in
-    let ready = subst (λ (q : Origin (Signals HtClient)). Ready with_signals q w c.w.inside.state) at c.w.invariant in
+    let ready = subst (λ (q : Origin (Signals HtClient)). Ready with_signals q w c.w.inside.state) at c.w.invariant.ready in
     let s = c.remove.ensures.steps ready.lists.is_writer ready.lists.is in
     (λ i. hand_events (sym c.self.view_is i).origin c.remove.new.writer.token)
     ∙ (updates_are_events o w.token c.remove.new.writer.token (opened (remove ∷ c.args.key ∷ []) s.0) (record { update = Del c.args.key; reply = c.remove.result } ∷ []) s.2 (opened_quiet (remove ∷ c.args.key ∷ []) s.0 (none_named remove (c.args.key ∷ []) (λ e. omega arith))) c.remove.ensures.log

@@ -1,4 +1,6 @@
-use Rattle.std.proofs.Common.{◌≡◌, ◌≤◌, ◌+◌, ◌*◌, ℕ, length, rules, ap, ◌∙◌}
+use Rattle.std.proofs.Common.{◌≡◌, ◌≤◌, ◌+◌, ◌*◌, ℕ, ⊎_elim, length, rules, true≢false, sym, ap, ◌∙◌}
+use Rattle.std.specs.FinSet as set
+use Rattle.ck_words.specs.Buddies.{Piece, piece, piece_cmp, IsPieceOut}
 use Rattle.std.specs.Prelude.{vec_capacity}
 use Rattle.ck_htlaw.specs.Layout.{arena, counters_of}
 use Rattle.ck_htwrite.specs.State.{most_words}
@@ -26,4 +28,7 @@ returns-clause-arena c place =
     let n = counters_of c.args.client.now in
     opening_kept n place c.in-Some.at c.take.new.self
     (still_of_table n c.in_ok-arena.arena c.take.new.self _ c.in-Some.ensures.after (new_of_table n _ _ c.in_ok-arena.arena c.in_ok-arena.ensures c.counters-counters.ensures.count c.arena_log.ensures.long))
-    (at_first c) c.in-Some.ensures.is_out
+    (at_first c) c.in-Some.ensures.is_out alone
+  where
+    alone : (p : Piece) → IsPieceOut c.take.new.self p → p ≡ piece c.in-Some.at 5
+    alone p out = ⊎_elim (λ e. e) (λ (old : IsPieceOut c.in_ok-arena.arena p). absurd (true≢false (sym old ∙ (ap (λ a. set.contains a.out p) c.in_ok-arena.ensures ∙ set.contains-empty piece_cmp p)))) ((c.in-Some.ensures.adds p).0 out)
