@@ -234,6 +234,7 @@ module _ {C : Type 0} (client : Client C) (passes : Passes client) where
                   before = at.looked;
                   active = n;
                   at = at.count;
+                  low = low;
                   current = are_current e at.looked busy at.found;
                   is_active = active;
                   other = other;

@@ -94,10 +94,11 @@ module _ {C : Type 0} where
     pub steps : u ≡ adding t (call poll [] (Load 0 e ∷ scan_steps 0 looked ++ Exchange 0 e (e + 1) e ∷ []))
 
   -- It found `rec` active with another epoch, and each active record before it with e
-  pub record IsBlocked (e rec epoch : ℕ) (t u : Token C) : Type 0 where
+  pub record IsBlocked (records e rec epoch : ℕ) (t u : Token C) : Type 0 where
     pub before : List RecordLook
     pub active : ℕ
     pub at : length before ≡ rec
+    pub low : rec < records
     pub current : AreCurrent e before
     pub is_active : active ≢ 0
     pub other : epoch ≢ e
@@ -107,7 +108,7 @@ module _ {C : Type 0} where
   abbrev pub Polls : ℕ → ℕ → Token C → Poll → Token C → Type 0
   Polls records e t (Clear n) u = FindsNoneActive records e t u
   Polls records e t (Moved n rec) u = Moves records e rec t u
-  Polls records e t (Blocked n rec epoch) u = IsBlocked e rec epoch t u
+  Polls records e t (Blocked n rec epoch) u = IsBlocked records e rec epoch t u
 
   -- From t to u the writer retired and dispatched nothing, and raised no epoch
   abbrev pub SameItemsAndEpoch : Token C → Token C → Type 0

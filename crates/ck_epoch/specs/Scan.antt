@@ -64,4 +64,4 @@ module _ {C : Type 0} (client : Client C) where
   Did t u e Clear = FindsNoneActive (records_of (origin t)) e t u × IsDone t u e [] (first_dispatch e (state t) ++ list_by_list (off_list ((e - 2) % 4) (state t).pending))
   Did t u e (Current rec) = Moves (records_of (origin t)) e rec t u × IsDone t u (e + 1) (off_list ((e - 1) % 4) (off_list ((e - 2) % 4) (state t).pending))
       (first_dispatch e (state t) ++ on_list ((e - 1) % 4) (off_list ((e - 2) % 4) (state t).pending))
-  Did t u e (Behind rec epoch) = IsBlocked e rec epoch t u × IsDone t u e (off_list ((e - 2) % 4) (state t).pending) (first_dispatch e (state t))
+  Did t u e (Behind rec epoch) = IsBlocked (records_of (origin t)) e rec epoch t u × IsDone t u e (off_list ((e - 2) % 4) (state t).pending) (first_dispatch e (state t))

@@ -103,6 +103,25 @@ impl<C: Client> Domain<C> {
         ensures calls { writer.new.calls ≡ writer.old.calls + 1 }
         ensures part { IsDomainToken C.meaning writer.new.token }
     {
+        self.poll_from(writer).1
+    }
+
+    /// As `poll`, and tells the global epoch that this call loaded. Where it moved that, each active record had this one.
+    pub fn poll_from<F: Fn(Item) -> Back>(&self, writer: &mut Writer<C, F>) -> (u64, Poll)
+        requires table { table writer.old.token ≡ self.now }
+        requires calls { writer.old.calls < 2 ^ 40 }
+        requires handler { Answers (C.meaning.retires self.now.origin.config.client) (C.meaning.home self.now.origin.config.client) (F.pre writer.old.handler) (F.post writer.old.handler) }
+        ensures loaded { result.0 ≡ (state writer.old.token).epoch }
+        ensures same { (table writer.new.token ≡ table writer.old.token) × (number writer.new.token ≡ number writer.old.token) × (writer.new.room ≡ writer.old.room) × (writer.new.handler ≡ writer.old.handler) × (writer.new.tally ≡ writer.old.tally) }
+        ensures steps { Polls (records_of self.now.origin) (state writer.old.token).epoch writer.old.token result.1 writer.new.token }
+        ensures waiting { writer.new.waiting ≡ writer.old.waiting ++ homes (C.meaning.home self.now.origin.config.client) (dispatched_items (state writer.old.token).epoch result.1 (queue (state writer.old.token).pending)) }
+        ensures dispatched { queue (state writer.new.token).dispatched ≡ queue (state writer.old.token).dispatched ++ dispatched_items (state writer.old.token).epoch result.1 (queue (state writer.old.token).pending) }
+        ensures pending { queue (state writer.new.token).pending ≡ pending_after (state writer.old.token).epoch result.1 (queue (state writer.old.token).pending) }
+        ensures count { count_of result.1 ≡ length (dispatched_items (state writer.old.token).epoch result.1 (queue (state writer.old.token).pending)) }
+        ensures epoch { (state writer.new.token).epoch ≡ epoch_after (state writer.old.token).epoch result.1 }
+        ensures calls { writer.new.calls ≡ writer.old.calls + 1 }
+        ensures part { IsDomainToken C.meaning writer.new.token }
+    {
         let client = &self.about.client;
         let epoch = self.start_poll(&mut writer.token);
         // An open section has the epoch e or e - 1, and what was retired since it opened has at least that epoch. So no open section is
@@ -118,23 +137,27 @@ impl<C: Client> Domain<C> {
                 let rest = writer
                     .backlog
                     .dispatch_all(client, &writer.token, &writer.handler);
-                Poll::Clear { n: before + rest }
+                (epoch, Poll::Clear { n: before + rest })
             }
             // The epoch is e + 1 now, and no active record lags behind e: the list of e - 1 is two behind, as that of e - 2 was before.
             Scan::Current { rec } => {
                 let rest = writer
                     .backlog
                     .dispatch_list(client, &writer.token, (epoch - 1) % 4, &writer.handler);
-                Poll::Moved {
+                let moved = Poll::Moved {
                     n: before + rest,
                     rec,
-                }
+                };
+                (epoch, moved)
             }
-            Scan::Behind { rec, epoch } => Poll::Blocked {
-                n: before,
-                rec,
-                epoch,
-            },
+            Scan::Behind { rec, epoch: found } => {
+                let blocked = Poll::Blocked {
+                    n: before,
+                    rec,
+                    epoch: found,
+                };
+                (epoch, blocked)
+            }
         }
     }
 }

@@ -23,5 +23,5 @@ pub use fixed::FixedBook;
 pub use fixed_lists::FixedLists;
 pub use key::Key;
 pub use lists::Lists;
-pub use log::{LogEntry, Look, Placed};
+pub use log::{Busy, LogEntry, Look, Placed};
 pub use update::{Reply, Update};

@@ -20,6 +20,14 @@ pub enum Look {
     Again { before: u64, after: u64 },
 }
 
+/// Why the writer of a structure couldn't update it: it needed a piece of its arena, none was free, and the poll that it made then loaded this
+/// record active with this epoch.
+#[derive(Clone, Copy, PartialEq, Eq, Debug)]
+pub struct Busy {
+    pub rec: u64,
+    pub epoch: u64,
+}
+
 /// An answered look-up, with its place: the number of updates after which the map gave this answer. Only contracts speak of it.
 #[derive(Clone, Copy, PartialEq, Eq, Debug)]
 pub struct Placed<K> {

@@ -3,7 +3,7 @@ use Rattle.std.proofs.Common.{◌≡◌, ℕ, suc, ◌⊎◌, ⊎_elim, inl, inr
 use Rattle.ck_run.specs.declared.account.Step.{Step}
 use Rattle.ck_epoch.specs.State.{Retirement}
 use Rattle.ck_htlaw.specs.Stages.{Target, empty, reuse, move, Insertion, Stage, idle, with_bump, with_value, with_low, with_high, twice, before_tombstone, with_tombstone, clearing, copying, retiring, retiring_at_end, after_rebuild}
-use Rattle.ck_htlaw.specs.Table.{Layout, Action, inserts, stands, deletes, nothing, begins_rebuild, copies, publishes, tidies, WriterState, first, filled, copied, copy, second, MayWriterStep, released}
+use Rattle.ck_htlaw.specs.Table.{Layout, Action, inserts, stands, deletes, nothing, begins_rebuild, copies, publishes, tidies, WriterState, after_first, filled, copied, copy, second, MayWriterStep, released}
 use Rattle.ck_htlaw.specs.Invariant.{BeginsRebuild, IsTaking, IsUnpublishedBy}
 use Rattle.ck_reclaim.specs.Pieces.{AreApart}
 use Rattle.ck_htlaw.specs.Layout.{log_of, IsPiece, region_item, IsTableItem, IsFreeRegion}
@@ -30,7 +30,7 @@ module _ (l : Layout) where
   cleared_is false call other i root h = h
 
   -- of a writer between two updates
-  first_builds : (call : List ℕ) (q : WriterState) → q.stage ≡ idle → (a : Action) → ((first l call q a).root ≡ q.root) × ((root : ℕ) → IsBuilding (first l call q a).stage root → BeginsRebuild a root)
+  first_builds : (call : List ℕ) (q : WriterState) → q.stage ≡ idle → (a : Action) → ((after_first l call q a).root ≡ q.root) × ((root : ℕ) → IsBuilding (after_first l call q a).stage root → BeginsRebuild a root)
   first_builds call q e (inserts empty w) = (refl, λ root h. absurd h)
   first_builds call q e (inserts reuse w) = (refl, λ root h. absurd h)
   first_builds call q e (inserts (move from) w) = (refl, λ root h. absurd h)

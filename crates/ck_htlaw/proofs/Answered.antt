@@ -7,10 +7,11 @@ use Rattle.ck_run.proofs.Law.{moved_here, moved_else}
 use Rattle.ck_slots.specs.Slots.{Order, SlotsView}
 use Rattle.ck_htlaw.specs.Stages.{Target, empty, reuse, move, Insertion, Maps, Stage, idle, with_high, copying, after_rebuild}
 use Rattle.ck_htlaw.specs.Look.{LookState, no_look, checking_value, checking_absence, IsSince, LookInvariant}
-use Rattle.ck_htlaw.specs.Table.{Layout, view, count, Action, inserts, stands, deletes, nothing, publishes, tidies, WriterState, ReaderState, LocalState, writer, reader, grown, repeated, first, filled, copy, second, next, May, after_own, after_other, is_table_word, mark, since_look, since_of, linearized_of}
+use Rattle.ck_htlaw.specs.Table.{Layout, view, count, Action, inserts, stands, deletes, nothing, publishes, tidies, WriterState, ReaderState, LocalState, writer, reader, grown, repeated, after_first, filled, copy, second, next, May, after_own, after_other, is_table_word, mark, since_look, since_of, linearized_of}
 use Rattle.ck_htlaw.specs.Invariant.{IsSoundAt, SeesPresent, SeesReplaced, ReaderInvariant, WriterInvariant, TableInvariant, SideCondition, owed}
 use Rattle.ck_htlaw.specs.Trace.{Trace, Scene, goes}
-use Rattle.ck_htlaw.specs.Answers.{maps_of, look_state_of, then, IsRunFrom, IsWithinLook, IsGiven}
+use Rattle.ck_htlaw.specs.Law.{look_state_of}
+use Rattle.ck_htlaw.specs.Answers.{maps_of, then, IsRunFrom, IsWithinLook, IsGiven}
 use Rattle.ck_htlaw.proofs.UpdateSteps.{grown_step, repeated_same}
 use Rattle.ck_htlaw.proofs.TableSteps.{law, keeps}
 use Rattle.ck_htlaw.proofs.Readers.{since_more}
@@ -31,7 +32,7 @@ repeats : (linearized : ℕ) (maps : Maps) → IsMore linearized maps (suc linea
 repeats linearized maps = record { low = omega arith; high = omega arith; same = λ i j b. repeated_same maps linearized i j b }
 
 module _ (l : Layout) (p : WriterState) where
-  first_more : (call : List ℕ) (q : WriterState) (a : Action) → IsMore q.linearized q.maps (first l call q a).linearized (first l call q a).maps
+  first_more : (call : List ℕ) (q : WriterState) (a : Action) → IsMore q.linearized q.maps (after_first l call q a).linearized (after_first l call q a).maps
   first_more call q (inserts empty w) = stays q.linearized q.maps
   first_more call q (inserts reuse w) = stays q.linearized q.maps
   first_more call q (inserts (move from) w) = stays q.linearized q.maps

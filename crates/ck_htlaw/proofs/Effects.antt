@@ -32,26 +32,22 @@ use Rattle.ck_htlaw.proofs.Soundness.{now, plan_says}
 use Rattle.ck_slots.proofs.Lives.{nat_exact}
 use Rattle.ck_htlaw.proofs.Lives.{opt, live_keys}
 
--- a map stays in order
+-- a map stays in order: where there is room for a fresh key and where there is none
+added_sorted : (m : Map ℕ) (k x : ℕ) → IsMap nat_cmp m → (b : Bool) → IsMap nat_cmp (cond {A = Map ℕ × Reply} b (insert_entry nat_cmp m k x, Fresh) (m, Full)).0
+added_sorted m k x sorted true = IsMap-insert_entry nat_cmp_total k x m sorted
+added_sorted m k x sorted false = sorted
+
 pub step_sorted : (m : Map ℕ) (u : Update ℕ) → IsMap nat_cmp m → IsMap nat_cmp (step nat_cmp most m u).0
 step_sorted m (Set k x) sorted = by (find nat_cmp m k) refl
   where
-    adds_in : (b : Bool) → IsMap nat_cmp (cond {A = Map ℕ × Reply} b (insert_entry nat_cmp m k x, Fresh) (m, Full)).0
-    adds_in true = IsMap-insert_entry nat_cmp_total k x m sorted
-    adds_in false = sorted
-
     by : (r : Option ℕ) → find nat_cmp m k ≡ r → IsMap nat_cmp (step nat_cmp most m (Set k x)).0
     by (Some v) e = subst (λ (z : Map ℕ × Reply). IsMap nat_cmp z.0) (sym (step-Set_found nat_cmp most m k v e x)) (IsMap-insert_entry nat_cmp_total k x m sorted)
-    by None e = subst (λ (z : Map ℕ × Reply). IsMap nat_cmp z.0) (sym (step-Set_absent nat_cmp most m k e x)) (adds_in (nat_lt (length m) most))
+    by None e = subst (λ (z : Map ℕ × Reply). IsMap nat_cmp z.0) (sym (step-Set_absent nat_cmp most m k e x)) (added_sorted m k x sorted (nat_lt (length m) most))
 step_sorted m (Put k x) sorted = by (find nat_cmp m k) refl
   where
-    adds_in : (b : Bool) → IsMap nat_cmp (cond {A = Map ℕ × Reply} b (insert_entry nat_cmp m k x, Fresh) (m, Full)).0
-    adds_in true = IsMap-insert_entry nat_cmp_total k x m sorted
-    adds_in false = sorted
-
     by : (r : Option ℕ) → find nat_cmp m k ≡ r → IsMap nat_cmp (step nat_cmp most m (Put k x)).0
     by (Some v) e = subst (λ (z : Map ℕ × Reply). IsMap nat_cmp z.0) (sym (step-Put_found nat_cmp most m k v e x)) sorted
-    by None e = subst (λ (z : Map ℕ × Reply). IsMap nat_cmp z.0) (sym (step-Put_absent nat_cmp most m k e x)) (adds_in (nat_lt (length m) most))
+    by None e = subst (λ (z : Map ℕ × Reply). IsMap nat_cmp z.0) (sym (step-Put_absent nat_cmp most m k e x)) (added_sorted m k x sorted (nat_lt (length m) most))
 step_sorted m (Del k) sorted = by (find nat_cmp m k) refl
   where
     by : (r : Option ℕ) → find nat_cmp m k ≡ r → IsMap nat_cmp (step nat_cmp most m (Del k)).0

@@ -32,7 +32,7 @@ use Rattle.ck_htlaw.specs.Client.{look_ends, answers_after, table_next, table_ma
 use Rattle.ck_htlaw.specs.Invariant.{IsRegion, IsDisjoint, IsUnpublishedBy, SideCondition, WriterInvariant, IsSoundAt, ReaderInvariant, SeesPresent, SeesReplaced, TableInvariant, owed}
 use Rattle.ck_htlaw.specs.Linearized.{map_after, AreReplies, under_way, linearized_updates}
 use Rattle.ck_htlaw.specs.Law.{AreOf, copies_of, copies_by, look_state_of, retries_of, local_in, answers_in, log_in, updates_in, linearized, map_in, root_in, WordsStand, IsLook, until, GaveWithin, KeepsRegion, TableLaw}
-use Rattle.ck_htlaw.specs.Answers.{maps_of, look_state_of as scene_look_state, then, IsWithinLook, IsGiven, map_at}
+use Rattle.ck_htlaw.specs.Answers.{maps_of, then, IsWithinLook, IsGiven, map_at}
 use Rattle.ck_htlaw.proofs.Replacing.{not_both}
 use Rattle.ck_htlaw.proofs.Scenes.{after-append, after_words}
 use Rattle.ck_htlaw.proofs.AtOpening.{opening}
@@ -46,7 +46,7 @@ use Rattle.ck_htlaw.proofs.Arena.{region}
 use Rattle.ck_htlaw.proofs.Frozen.{MayChange, Leaves, word_left, leaves_else, leaves_load, leaves_store, slots_far, counter_far}
 use Rattle.ck_htlaw.proofs.Answered.{found_is_given, absent_is_given}
 
-look_states : (h : LocalState) → look_state_of h ≡ scene_look_state h
+look_states : (h : LocalState) → look_state_of h ≡ look_state_of h
 look_states (writer p) = refl
 look_states (reader y) = refl
 
@@ -173,11 +173,13 @@ module _ {D : Type 0} (host : Host D) (within : IsWithin table host.client host.
     look_state_is look_state is = ap look_state_of (sym at_y ∙ local past (suc r)) ∙ is
 
     -- the last load loads the counter
+    counter_word : (look_state : LookState) (word n : ℕ) → (((k : ℕ) × (c : ℕ) × (x : ℕ) × (look_state ≡ checking_value k c x)) ⊎ ((k : ℕ) × (c : ℕ) × (look_state ≡ checking_absence k c))) → y.look_state ≡ look_state → e.step ≡ Load word n → word ≡ l.counter y.root
+    counter_word look_state word n which is load = let m : MayLookStep l y.root look_state (Load word n) = subst (λ (x : LookState × Step). MayLookStep l y.root x.0 x.1) (λ i. (is i, load i)) may_look_step in
+        ⊎_elim (λ g. subst (λ (x : LookState). MayLookStep l y.root x (Load word n)) g.3 m) (λ g. subst (λ (x : LookState). MayLookStep l y.root x (Load word n)) g.2 m) which
+
     counter : (look_state : LookState) (word n : ℕ) → (((k : ℕ) × (c : ℕ) × (x : ℕ) × (look_state ≡ checking_value k c x)) ⊎ ((k : ℕ) × (c : ℕ) × (look_state ≡ checking_absence k c))) → y.look_state ≡ look_state → e.step ≡ Load word n → n ≡ count l (sc past).words y.root
-    counter look_state word n which is load = let m : MayLookStep l y.root look_state (Load word n) = subst (λ (x : LookState × Step). MayLookStep l y.root x.0 x.1) (λ i. (is i, load i)) may_look_step in
-        let f : Fits (sc past).words (Load word n) = subst (Fits (sc past).words) load fit in
-        let at : word ≡ l.counter y.root = ⊎_elim (λ g. subst (λ (x : LookState). MayLookStep l y.root x (Load word n)) g.3 m) (λ g. subst (λ (x : LookState). MayLookStep l y.root x (Load word n)) g.2 m) which in
-        f ∙ ap (λ (a : ℕ). get_or (sc past).words a 0) at
+    counter look_state word n which is load = let f : Fits (sc past).words (Load word n) = subst (Fits (sc past).words) load fit in
+        f ∙ ap (λ (a : ℕ). get_or (sc past).words a 0) (counter_word look_state word n which is load)
 
     -- and it has risen, or stands
     risen : (look_state : LookState) (c : ℕ) → y.look_state ≡ look_state → (look_state ≡ no_look → ⊥) → ((o : Order) (v : SlotsView) (maps : Maps) (q : ℕ) (g : Stage) (now s : ℕ) → LookInvariant o v maps q g now s look_state → c ≤ now) → c ≤ count l (sc past).words y.root
@@ -186,10 +188,16 @@ module _ {D : Type 0} (host : Host D) (within : IsWithin table host.client host.
         (λ (u : SeesReplaced l ws p s y). tells (l.order y.root) (view l ws y.root) p.maps u.place idle (count l ws y.root) s (subst (LookInvariant (l.order y.root) (view l ws y.root) p.maps u.place idle (count l ws y.root) s) is u.is_reader))
         ((h.is_table.readers r).2.looks (λ z. not_out (sym is ∙ z)))
 
-    again : (word c n : ℕ) → e.step ≡ Load word n → (((k : ℕ) × (x : ℕ) × (look_state_of (local_in host origin past (suc r)) ≡ checking_value k c x)) ⊎ ((k : ℕ) × (look_state_of (local_in host origin past (suc r)) ≡ checking_absence k c))) → c ≤ n
+    again : (word c n : ℕ) → e.step ≡ Load word n → (((k : ℕ) × (x : ℕ) × (y.look_state ≡ checking_value k c x)) ⊎ ((k : ℕ) × (y.look_state ≡ checking_absence k c))) → (word ≡ l.counter y.root) × (c ≤ n)
     again word c n load which = ⊎_elim
-        (λ g. let is = look_state_is (checking_value g.0 c g.1) g.2 in subst (λ (i : ℕ). c ≤ i) (sym (counter (checking_value g.0 c g.1) word n (inl (g.0, c, g.1, refl)) is load)) (risen (checking_value g.0 c g.1) c is (λ z. cc) (λ o v maps q st now s z. z.risen)))
-        (λ g. let is = look_state_is (checking_absence g.0 c) g.1 in subst (λ (i : ℕ). c ≤ i) (sym (counter (checking_absence g.0 c) word n (inr (g.0, c, refl)) is load)) (risen (checking_absence g.0 c) c is (λ z. cc) (λ o v maps q st now s z. z.risen))) which
+        (λ g. let h : LookState = checking_value g.0 c g.1 in
+        (counter_word h word n (inl (g.0, c, g.1, refl)) g.2 load, subst (λ (i : ℕ). c ≤ i) (sym (counter h word n (inl (g.0, c, g.1, refl)) g.2 load)) (risen h c g.2 (λ z. cc) (λ o v maps q st now s z. z.risen))))
+        (λ g. let h : LookState = checking_absence g.0 c in
+        (counter_word h word n (inr (g.0, c, refl)) g.1 load, subst (λ (i : ℕ). c ≤ i) (sym (counter h word n (inr (g.0, c, refl)) g.1 load)) (risen h c g.1 (λ z. cc) (λ o v maps q st now s z. z.risen)))) which
+
+    -- the reader that the run tells is this one
+    is_reader : (z : ReaderState) → local_in host origin past (suc r) ≡ reader z → y ≡ z
+    is_reader z is = let hands : reader y ≡ reader z = sym at_y ∙ (local past (suc r) ∙ is) in cc
 
   -- the answer of a look
   abbrev after_run : Scene LocalState (ℕ → ℕ) → Run → Scene LocalState (ℕ → ℕ)
@@ -198,7 +206,7 @@ module _ {D : Type 0} (host : Host D) (within : IsWithin table host.client host.
   scene_then : (past run : Run) → sc (past ++ run) ≡ after_run (sc past) run
   scene_then past run = after-append (table_next l) (table_may l) mark (SideCondition l (action l)) (opening l origin.words) past run
 
-  within_look : (n : ℕ) (w : Scene LocalState (ℕ → ℕ)) (run : Run) → ((before behind : Run) → run ≡ before ++ behind → scene_look_state ((after_run w before).at n) ≡ no_look → ⊥) → IsWithinLook l (action l) key_of n w run
+  within_look : (n : ℕ) (w : Scene LocalState (ℕ → ℕ)) (run : Run) → ((before behind : Run) → run ≡ before ++ behind → look_state_of ((after_run w before).at n) ≡ no_look → ⊥) → IsWithinLook l (action l) key_of n w run
   within_look n w [] h = tt
   within_look n w (x ∷ run) h = (h [] (x ∷ run) refl, within_look n (goes (table_next l) (table_may l) mark (SideCondition l (action l)) w x.0 x.1) run (λ before behind z. h (x ∷ before) behind (ap (λ (xs : Run). x ∷ xs) z)))
 
@@ -225,7 +233,7 @@ module _ {D : Type 0} (host : Host D) (within : IsWithin table host.client host.
     scene_at : (before : Run) → sc (until past r e before) ≡ after_run w' before
     scene_at before = scene_then past ((suc r, e) ∷ before)
 
-    starts : scene_look_state ((sc past).at (suc r)) ≡ no_look
+    starts : look_state_of ((sc past).at (suc r)) ≡ no_look
     starts = sym (look_states ((sc past).at (suc r))) ∙ (ap look_state_of (local past (suc r)) ∙ look.starts)
 
     is_within : IsWithinLook l (action l) key_of (suc r) w' between
@@ -466,7 +474,7 @@ module _ {D : Type 0} (host : Host D) (within : IsWithin table host.client host.
     log = λ past more t. has_all_but_one past more t;
     grows = λ past more idle t. linearized_grow host within law pieces origin plan_ok more past idle t;
     answers = λ past between more r e e' k x t look last. answered past between more r e e' k x t look last;
-    again = λ past more r e word c n t own load which. again past more r e t own word c n load which;
+    again = λ past more r e z word c n t own load is which. subst (λ (q : ReaderState). (((k : ℕ) × (x : ℕ) × (q.look_state ≡ checking_value k c x)) ⊎ ((k : ℕ) × (q.look_state ≡ checking_absence k c))) → (word ≡ l.counter q.root) × (c ≤ n)) (is_reader past more r e t own z is) (again past more r e t own word c n load) which;
     bounded = λ past more r p t at_p is. bounded past more t r p at_p is;
     alone = λ past between more r e e' k x t look only last. alone_gives past between more r e e' k x only (answered past between more r e e' k x t look last);
     alone_answers = λ past between more r e e' word c n t look only load which. alone_same past between more r e e' word c n t look only load which;

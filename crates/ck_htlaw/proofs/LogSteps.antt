@@ -13,7 +13,7 @@ use Rattle.ck_history.specs.Map.{Map, IsMap, find, step}
 use Rattle.ck_slots.specs.Changes.{IsUpdate}
 use Rattle.ck_htlaw.specs.Calls.{opening_of}
 use Rattle.ck_htlaw.specs.Stages.{Target, empty, reuse, move, Insertion, Stage, idle, with_bump, with_value, with_low, with_high, twice, before_tombstone, with_tombstone, clearing, copying, retiring, retiring_at_end, after_rebuild, Maps}
-use Rattle.ck_htlaw.specs.Table.{Layout, Action, inserts, stands, deletes, nothing, begins_rebuild, copies, publishes, tidies, WriterState, grown, repeated, first, filled, copy, second, MayDo, MayWriterStep, released, released_log}
+use Rattle.ck_htlaw.specs.Table.{Layout, Action, inserts, stands, deletes, nothing, begins_rebuild, copies, publishes, tidies, WriterState, grown, repeated, after_first, filled, copy, second, MayDo, MayWriterStep, released, released_log}
 use Rattle.ck_htlaw.specs.Actions.{most}
 use Rattle.ck_htlaw.specs.Linearized.{map_after, AreReplies, under_way, update_of}
 use Rattle.ck_htlaw.proofs.UpdateSteps.{grown_step, repeated_here}
@@ -73,11 +73,11 @@ module _ (g : Stage) (linearized n : ℕ) (maps : Maps) (log us : List (LogEntry
   same_log : (d : LogEntry ℕ) → log ≡ log_then log n n d
   same_log d = sym (ap (λ (b : Bool). log ++ cond b (d ∷ []) []) (not_less n) ∙ append-nil log)
 
-  -- nothing takes place and nothing is answered
-  pub stays_at : (g' : Stage) (d : LogEntry ℕ) → under_way g d0 ≡ [] → under_way g' d ≡ [] → IsDue (map_after us) d g' → Logged g' linearized n maps (log_then log n n d) us d
-  stays_at g' d none none' due = record {
-    is = h.is ∙ ((λ i. same_log d i ++ none i) ∙ ap (λ (l : List (LogEntry ℕ)). log_then log n n d ++ l) (sym none'));
-    linearized_is = h.linearized_is ∙ ap (λ (l : List (LogEntry ℕ)). n + length l) (none ∙ sym none');
+  -- what is under way stays, and nothing is answered
+  stays_as : (g' : Stage) (d : LogEntry ℕ) → under_way g d0 ≡ under_way g' d → IsDue (map_after us) d g' → Logged g' linearized n maps (log_then log n n d) us d
+  stays_as g' d same due = record {
+    is = h.is ∙ (λ i. same_log d i ++ same i);
+    linearized_is = h.linearized_is ∙ ap (λ (l : List (LogEntry ℕ)). n + length l) same;
     count = ap length (sym (same_log d)) ∙ h.count;
     pairs = h.pairs;
     sorted = h.sorted;
@@ -85,17 +85,13 @@ module _ (g : Stage) (linearized n : ℕ) (maps : Maps) (log us : List (LogEntry
     due = due;
   }
 
-  -- the same of a call whose update has taken place
+  -- no update took place
+  pub stays_at : (g' : Stage) (d : LogEntry ℕ) → under_way g d0 ≡ [] → under_way g' d ≡ [] → IsDue (map_after us) d g' → Logged g' linearized n maps (log_then log n n d) us d
+  stays_at g' d none none' = stays_as g' d (none ∙ sym none')
+
+  -- the update of the call has taken place
   pub stays_under : (g' : Stage) → under_way g d0 ≡ d0 ∷ [] → under_way g' d0 ≡ d0 ∷ [] → IsDue (map_after us) d0 g' → Logged g' linearized n maps (log_then log n n d0) us d0
-  stays_under g' one one' due = record {
-    is = h.is ∙ ((λ i. same_log d0 i ++ one i) ∙ ap (λ (l : List (LogEntry ℕ)). log_then log n n d0 ++ l) (sym one'));
-    linearized_is = h.linearized_is ∙ ap (λ (l : List (LogEntry ℕ)). n + length l) (one ∙ sym one');
-    count = ap length (sym (same_log d0)) ∙ h.count;
-    pairs = h.pairs;
-    sorted = h.sorted;
-    replies = h.replies;
-    due = due;
-  }
+  stays_under g' one one' = stays_as g' d0 (one ∙ sym one')
 
   -- it is answered
   pub is_answered : under_way g d0 ≡ d0 ∷ [] → Logged idle linearized (suc n) maps (log_then log n (suc n) d0) us d0
@@ -166,7 +162,7 @@ module _ (l : Layout) (log us : List (LogEntry ℕ)) where
 
   -- a call goes on from a writer that has made no update of it
   module _ (call : List ℕ) (q : WriterState) (d0 d : LogEntry ℕ) (g : Stage) (h : Logged g q.linearized q.log q.maps log us d0) (none : (e : LogEntry ℕ) → under_way g e ≡ []) (at : q.stage ≡ idle) (is : IsCall m d call) where
-    pub first_logs : (a : Action) (s : Step) → MayDo l q a s → Makes m d.update a → After (first l call q a) q.log log us d
+    pub first_logs : (a : Action) (s : Step) → MayDo l q a s → Makes m d.update a → After (after_first l call q a) q.log log us d
     first_logs (inserts empty w) (Store x y) may makes = (us, ([], sym (append-nil us)), stays_at g q.linearized q.log q.maps log us d0 h (with_value empty w) d (none d0) refl (makes, is.1))
     first_logs (inserts reuse w) (Store x y) may makes = (us, ([], sym (append-nil us)), stays_at g q.linearized q.log q.maps log us d0 h (with_bump reuse w) d (none d0) refl (makes, is.1))
     first_logs (inserts (move from) w) (Store x y) may makes = (us, ([], sym (append-nil us)), stays_at g q.linearized q.log q.maps log us d0 h (with_bump (move from) w) d (none d0) refl (makes, is.1))

@@ -1,9 +1,9 @@
 -- The stores in a region that isn't published yet, and the store of its root.
-use Rattle.std.proofs.Common.{◌≡◌, ◌≢◌, ℕ, suc, ◌+◌, ◌<◌, ◌≤◌, ⊎_elim, inr, refl, sym, ap, ◌∙◌, subst, arith, Bool, cond, eq-eqb, ne_eqb, List, length, set, get_or-set_other, get_or-set_same, length-set}
+use Rattle.std.proofs.Common.{◌≡◌, ◌≢◌, ℕ, suc, ◌+◌, ◌<◌, ◌≤◌, ◌⊎◌, ⊎_elim, inr, refl, sym, ap, ◌∙◌, subst, arith, Bool, cond, eq-eqb, ne_eqb, List, length, set, get_or-set_other, get_or-set_same, length-set}
 use mathlib.Core.Logic.{dite}
 use native.Mathlib.Decide.{ℕ_discrete}
-use Rattle.ck_slots.specs.Slots.{Order, SlotsView}
-use Rattle.ck_htlaw.specs.Stages.{Stage, idle, clearing, copying, retiring, retiring_at_end, after_rebuild, Maps, IsMap, IsPut, parts, NoneFull}
+use Rattle.ck_slots.specs.Slots.{Order, SlotsView, Holds}
+use Rattle.ck_htlaw.specs.Stages.{Stage, idle, clearing, copying, retiring, retiring_at_end, after_rebuild, Maps, IsMap, IsOld, IsPut, Knows, parts, NoneFull}
 use Rattle.ck_htlaw.specs.Look.{LookState, counted, LookInvariant}
 use Rattle.ck_htlaw.specs.Table.{Layout, column, view, count, WriterState, cleared}
 use Rattle.ck_htlaw.specs.Invariant.{IsDisjoint, IsRegion, IsNewRegion, IsUnpublished, IsPair, owed, SeesPresent, SeesReplaced, WriterInvariant}
@@ -24,24 +24,45 @@ IsCalm (retiring_at_end a) = Unit {0}
 IsCalm (after_rebuild c) = Unit {0}
 IsCalm g = ⊥
 
+-- then no key stands twice
+calm_old : (g : Stage) → IsCalm g → IsOld g ≡ IsOld idle
+calm_old idle c = refl
+calm_old (clearing a b i) c = refl
+calm_old (copying a b j s) c = refl
+calm_old (retiring a b) c = refl
+calm_old (retiring_at_end a) c = refl
+calm_old (after_rebuild a) c = refl
+calm_old g c = absurd c
+
 module _ (o : Order) (v : SlotsView) (maps : Maps) (q : ℕ) where
+  -- and there is nothing else to know
+  calm_knows : (g : Stage) → IsCalm g → Knows o v maps q g
+  calm_knows idle c = tt
+  calm_knows (clearing a b i) c = tt
+  calm_knows (copying a b j s) c = tt
+  calm_knows (retiring a b) c = tt
+  calm_knows (retiring_at_end a) c = tt
+  calm_knows (after_rebuild a) c = tt
+  calm_knows g c = absurd c
+
+  -- the words stand for the same map at a stage at which as many keys stand twice
+  same_map : (g g' : Stage) → IsOld g ≡ IsOld g' → Knows o v maps q g' → IsMap o v maps q g → IsMap o v maps q g'
+  same_map g g' old knows h = record {
+    hole = h.hole;
+    way = h.way;
+    present = subst (λ (Old : ℕ → ℕ → Type 0). (k s : ℕ) → Holds o v k s → Old k s ⊎ (maps q k ≡ suc (v.value s))) old h.present;
+    some_slot = subst (λ (Old : ℕ → ℕ → Type 0). (k x : ℕ) → maps q k ≡ suc x → (s : ℕ) × Holds o v k s × (Old k s → ⊥)) old h.some_slot;
+    once = subst (λ (Old : ℕ → ℕ → Type 0). (k s t : ℕ) → Holds o v k s → Holds o v k t → (s ≡ t) ⊎ (Old k s ⊎ Old k t)) old h.once;
+    keyed = h.keyed;
+    states = h.states;
+    knows = knows;
+  }
+
   pub map_rest : (g : Stage) → IsCalm g → IsMap o v maps q g → IsMap o v maps q idle
-  map_rest idle c h = h
-  map_rest (clearing a b i) c h = record { hole = h.hole; way = h.way; present = h.present; some_slot = h.some_slot; once = h.once; keyed = h.keyed; states = h.states; knows = tt }
-  map_rest (copying a b j s) c h = record { hole = h.hole; way = h.way; present = h.present; some_slot = h.some_slot; once = h.once; keyed = h.keyed; states = h.states; knows = tt }
-  map_rest (retiring a b) c h = record { hole = h.hole; way = h.way; present = h.present; some_slot = h.some_slot; once = h.once; keyed = h.keyed; states = h.states; knows = tt }
-  map_rest (retiring_at_end a) c h = record { hole = h.hole; way = h.way; present = h.present; some_slot = h.some_slot; once = h.once; keyed = h.keyed; states = h.states; knows = tt }
-  map_rest (after_rebuild a) c h = record { hole = h.hole; way = h.way; present = h.present; some_slot = h.some_slot; once = h.once; keyed = h.keyed; states = h.states; knows = tt }
-  map_rest g c h = absurd c
+  map_rest g c = same_map g idle (calm_old g c) tt
 
   pub rest_map : (g : Stage) → IsCalm g → IsMap o v maps q idle → IsMap o v maps q g
-  rest_map idle c h = h
-  rest_map (clearing a b i) c h = record { hole = h.hole; way = h.way; present = h.present; some_slot = h.some_slot; once = h.once; keyed = h.keyed; states = h.states; knows = tt }
-  rest_map (copying a b j s) c h = record { hole = h.hole; way = h.way; present = h.present; some_slot = h.some_slot; once = h.once; keyed = h.keyed; states = h.states; knows = tt }
-  rest_map (retiring a b) c h = record { hole = h.hole; way = h.way; present = h.present; some_slot = h.some_slot; once = h.once; keyed = h.keyed; states = h.states; knows = tt }
-  rest_map (retiring_at_end a) c h = record { hole = h.hole; way = h.way; present = h.present; some_slot = h.some_slot; once = h.once; keyed = h.keyed; states = h.states; knows = tt }
-  rest_map (after_rebuild a) c h = record { hole = h.hole; way = h.way; present = h.present; some_slot = h.some_slot; once = h.once; keyed = h.keyed; states = h.states; knows = tt }
-  rest_map g c h = absurd c
+  rest_map g c = same_map idle g (sym (calm_old g c)) (calm_knows g c)
 
   module _ (r : ℕ) where
     calm_rest : (g : Stage) → IsCalm g → IsKept o v v maps maps q q g idle r

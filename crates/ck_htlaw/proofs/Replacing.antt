@@ -2,7 +2,7 @@
 use Rattle.std.proofs.Common.{◌≡◌, ℕ, ⊎_elim, inl, inr, List}
 use Rattle.ck_run.specs.declared.account.Step.{Step}
 use Rattle.ck_htlaw.specs.Stages.{Target, empty, reuse, move, Insertion, Stage, idle, with_high, copying, retiring, retiring_at_end, after_rebuild}
-use Rattle.ck_htlaw.specs.Table.{Layout, Action, inserts, publishes, tidies, WriterState, filled, first, copy, second, MayWriterStep}
+use Rattle.ck_htlaw.specs.Table.{Layout, Action, inserts, publishes, tidies, WriterState, filled, after_first, copy, second, MayWriterStep}
 use Rattle.ck_htlaw.specs.Invariant.{IsUnpublishedBy}
 use Rattle.ck_htlaw.specs.Regions.{IsReplaced, Stands}
 
@@ -12,7 +12,7 @@ not_both a (retiring_at_end old) root other h r = h
 not_both a g root other h r = r
 
 module _ (l : Layout) (p : WriterState) (other : ℕ) where
-  first_stands : (call : List ℕ) (q : WriterState) (a : Action) → other ≡ q.root → Stands (first l call q a).root (first l call q a).stage other
+  first_stands : (call : List ℕ) (q : WriterState) (a : Action) → other ≡ q.root → Stands (after_first l call q a).root (after_first l call q a).stage other
   first_stands call q (inserts empty w) e = inl e
   first_stands call q (inserts reuse w) e = inl e
   first_stands call q (inserts (move from) w) e = inl e

@@ -1,5 +1,5 @@
 -- What the writer is about to do is right of the words as they stand.
-use Rattle.std.proofs.Common.{◌≡◌, ◌≢◌, ℕ, zero, suc, ◌+◌, ◌-◌, ◌*◌, ◌/◌, ◌%◌, ◌^◌, ◌<◌, ◌≤◌, Bool, true, false, cond, nat_le, nat_lt, ◌==◌, List, length, get_or, refl, sym, ap, ◌∙◌, subst, arith}
+use Rattle.std.proofs.Common.{◌≡◌, ◌≢◌, ℕ, ◌+◌, ◌-◌, ◌*◌, ◌/◌, ◌%◌, ◌^◌, ◌<◌, ◌≤◌, Bool, true, false, cond, nat_le, nat_lt, ◌==◌, List, length, get_or, refl, sym, ap, ◌∙◌, subst, arith}
 use Rattle.std.proofs.lemmas.Bool.Decides.{nat_tests}
 use Rattle.std.specs.Prelude.{Option, Some, None}
 use Rattle.ck_run.specs.declared.account.Entry.{Entry}
@@ -12,7 +12,7 @@ use Rattle.ck_htplan.specs.declared.cases.Plan.TheVariants.{Empty, Reuse, Stand,
 use Rattle.ck_htlaw.specs.Calls.{Opening, setting, putting, removing, tidying, looking, other, opening_of}
 use Rattle.ck_htlaw.specs.Stages.{empty, reuse, Stage, idle, copying, after_rebuild, Maps, IsMap, parts, NoneFull}
 use Rattle.ck_htlaw.specs.Table.{Layout, column, view, Action, nothing, begins_rebuild, copies, no_action, WriterState}
-use Rattle.ck_htlaw.specs.Actions.{most, next_full, job, slots_now, keys_now, tombstones_now, plan_now, root_at, adds, to_set, to_put, to_remove, by_call, key_at, when_copied, copies_to, to_copy, by_stage, action}
+use Rattle.ck_htlaw.specs.Actions.{most, job, slots_now, keys_now, tombstones_now, plan_now, root_at, adds, to_set, to_put, to_remove, by_call, key_at, when_copied, copies_to, to_copy, by_stage, action}
 use Rattle.ck_htlaw.specs.Layout.{log_of}
 use Rattle.ck_htplan.specs.Planning.{plan_of}
 use Rattle.ck_htlaw.specs.Invariant.{IsOwn, IsRegion, IsNewRegion, IsSound, IsSoundAt, IsCopySound, IsUnpublished, WriterInvariant}
@@ -20,18 +20,13 @@ use Rattle.ck_htlaw.proofs.Words.{if_inside}
 use Rattle.ck_htlaw.proofs.Maps.{remaps}
 use Rattle.ck_htlaw.proofs.Parts.{parts_skip}
 use Rattle.ck_htlaw.proofs.RebuildSteps.{map_rest}
-use Rattle.ck_htplan.specs.Deciding.{next_full as planned_full}
+use Rattle.ck_htplan.specs.Deciding.{next_full}
 use Rattle.ck_htplan.proofs.Says.{Says, says}
 use Rattle.ck_htplan.proofs.Decided.{IsNext, next_is, next_none}
 use Rattle.ck_htlaw.proofs.Planning.{plans_empty, plans_reuse, plans_move}
 
 yes_le : (a b : ℕ) → nat_le a b ≡ true → a ≤ b
 yes_le a b h = grind (arith, nat_tests)
-
--- The law and the plan look for the first full slot in the same way
-next_same : (f : ℕ → ℕ) (n j : ℕ) → next_full f n j ≡ planned_full f n j
-next_same f zero j = refl
-next_same f (suc n) j = ap (cond (f j == 1) (Some j)) (next_same f n (suc j))
 
 -- two lists of words with the same words of a region have the same slots
 view_agree : (l : Layout) (ws ws' : List ℕ) (root size : ℕ) → IsRegion l size root → ((i : ℕ) → IsOwn l i → get_or ws i 0 ≡ get_or ws' i 0) → view l ws' root ≡ view l ws root
@@ -173,13 +168,13 @@ module _ (l : Layout) (ws : List ℕ) (p : WriterState) (h : WriterInvariant l w
     pub to_copy_sound : (c : Opening) (r : Option ℕ) → next_full (slots_now l p).state (o.slots - j) j ≡ r → CopySound (to_copy l p c root j r)
     to_copy_sound c (Some s) e =
         let f = subst (λ (u : SlotsView). next_full u.state (o.slots - j) j ≡ Some s) now e in
-        let next = next_is v.state (o.slots - j) j s (sym (next_same v.state (o.slots - j) j) ∙ f) in
+        let next = next_is v.state (o.slots - j) j s f in
         let a = next.1 in let b = next.0.from in let low : s < o.slots = omega arith in
         copy_sound s (key_at l p s) (plan_of o' (view l p.words root) (key_at l p s)) next.0 low
         (subst (λ (u : SlotsView). Says o' v' (key_at l p s) (plan_of o' u (key_at l p s))) (sym now') (says o' new.region.ok v' (key_at l p s) (hid.way (key_at l p s)) hid.hole.0 hid.hole.1 hid.hole.2))
         (stood s low next.0.full)
     to_copy_sound c None e = if_copy (nat_le j o.slots) (when_copied l p c) no_action
-        (λ y. let le = yes_le j o.slots y in copied_sound c (le, λ s a b. next_none v.state (o.slots - j) j (sym (next_same v.state (o.slots - j) j) ∙ subst (λ (u : SlotsView). next_full u.state (o.slots - j) j ≡ None) now e) s a (omega arith)))
+        (λ y. let le = yes_le j o.slots y in copied_sound c (le, λ s a b. next_none v.state (o.slots - j) j (subst (λ (u : SlotsView). next_full u.state (o.slots - j) j ≡ None) now e) s a (omega arith)))
         (λ _. tt)
 
 -- at every stage

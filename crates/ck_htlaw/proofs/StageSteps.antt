@@ -5,7 +5,7 @@ use Rattle.ck_run.specs.declared.account.Step.TheVariants.{Load, Store}
 use Rattle.ck_run.specs.Run.{words_after}
 use Rattle.ck_slots.specs.Slots.{Order, SlotsView}
 use Rattle.ck_htlaw.specs.Stages.{empty, reuse, move, Stage, idle, with_bump, with_value, with_low, with_high, twice, before_tombstone, with_tombstone, clearing, copying, retiring, retiring_at_end, after_rebuild, Maps, IsMap, IsPut, IsStep, parts}
-use Rattle.ck_htlaw.specs.Table.{Layout, column, view, Action, inserts, stands, deletes, nothing, begins_rebuild, copies, publishes, tidies, WriterState, repeated, linearizing, cleared, first, filled, second, copy, MayDo, MayCopy, MayWriterStep}
+use Rattle.ck_htlaw.specs.Table.{Layout, column, view, Action, inserts, stands, deletes, nothing, begins_rebuild, copies, publishes, tidies, WriterState, repeated, linearizing, cleared, after_first, filled, second, copy, MayDo, MayCopy, MayWriterStep}
 use Rattle.ck_htlaw.specs.Invariant.{IsDisjoint, IsNewRegion, IsUnpublished, IsSound, IsSoundAt, BeginsRebuild, IsTaking, IsUnpublishedBy, WriterInvariant}
 use Rattle.ck_htlaw.proofs.Maps.{values, lows_in, highs_in, begins, closes, settles, remaps}
 use Rattle.ck_htlaw.proofs.Places.{fills_empty}
@@ -35,7 +35,7 @@ module _ (l : Layout) (Free : ℕ → Type 0) (ws : List ℕ) (p : WriterState) 
   abbrev ActionStep : WriterState → Step → Type 0
   ActionStep p' s = Preserves l Free ws p (words_after ws s) record p' { words = words_after p.words s }
 
-  pub by_act : (call : List ℕ) (a : Action) (s : Step) → p.stage ≡ idle → IsSound l ws p.root (p.maps p.linearized) a → MayDo l p a s → ((root : ℕ) → BeginsRebuild a root → IsNewRegion l ws p.root root) → ((root other : ℕ) → BeginsRebuild a root → Free other → IsDisjoint l other root) → ActionStep (first l call p a) s
+  pub by_act : (call : List ℕ) (a : Action) (s : Step) → p.stage ≡ idle → IsSound l ws p.root (p.maps p.linearized) a → MayDo l p a s → ((root : ℕ) → BeginsRebuild a root → IsNewRegion l ws p.root root) → ((root other : ℕ) → BeginsRebuild a root → Free other → IsDisjoint l other root) → ActionStep (after_first l call p a) s
   by_act call (inserts empty w) (Store a x) e plan may new free = let b = bumps_at l Free ws p h idle e in
       at_word (λ b y. Preserves l Free ws p (set ws b y) record p { stage = with_value empty w; words = set p.words b y }) a (l.word p.root w.to 3) x w.number may.0 may.1
       (value_turn l Free ws p h idle empty w e (λ k t z. z) (λ r k i z. z) plan (λ s q u. q.state (sym (ap v.state u) ∙ plan.0.room)) (omega arith))
@@ -143,6 +143,6 @@ module _ (l : Layout) (Free : ℕ → Type 0) (ws : List ℕ) (p : WriterState) 
       (clear_step l ws p h root hid.0 c i (clearing c root i) e tt hid.1 hid.2))
   by_stage call a (copying c root j g) s e plan may new free = by_copy c root j a g s e plan may (λ other f. free root other refl f)
   by_stage call a (after_rebuild c) s e plan may new free = let go = turns_calm l ws p h Free (after_rebuild c) idle e tt tt tt in
-      goes_then l Free ws p ws record p { stage = idle } (words_after ws s) record (first l c record p { stage = idle } a) { words = words_after p.words s } go
+      goes_then l Free ws p ws record p { stage = idle } (words_after ws s) record (after_first l c record p { stage = idle } a) { words = words_after p.words s } go
       (by_act l Free ws record p { stage = idle } go.writer_state c a s refl plan may new free)
   by_stage call a g s e plan may new free = absurd may

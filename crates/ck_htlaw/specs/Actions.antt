@@ -1,11 +1,11 @@
 -- What the writer is about to do at a step, by the call that it is in and by the plan on the words as its own stores left them; and what it
 -- answers.
-use Rattle.std.specs.Prelude.{ℕ, zero, suc, ◌+◌, ◌-◌, ◌*◌, ◌^◌, nat_le, nat_lt, cond, ◌==◌, Option, Some, None}
+use Rattle.std.specs.Prelude.{ℕ, ◌+◌, ◌-◌, ◌*◌, ◌^◌, nat_le, nat_lt, cond, ◌==◌, Option, Some, None}
 use Rattle.ck_run.specs.declared.account.Entry.{Entry}
 use Rattle.ck_run.specs.Range.{word_of}
 use Rattle.ck_history.specs.declared.update.Update.TheVariants.{Set, Put, Del, Tidy}
 use Rattle.ck_history.specs.declared.update.Reply.{Reply}
-use Rattle.ck_history.specs.declared.update.Reply.TheVariants.{Fresh, Was, Has, Missing, Tidied, Full}
+use Rattle.ck_history.specs.declared.update.Reply.TheVariants.{Tidied}
 use Rattle.ck_history.specs.declared.log.LogEntry.{LogEntry}
 use Rattle.ck_slots.specs.Slots.{Order, SlotsView}
 use Rattle.ck_slots.specs.Counting.{count as how_many, used, rebuilt_log}
@@ -16,15 +16,12 @@ use Rattle.ck_htlaw.specs.Stages.{Insertion, Target, empty, reuse, move, Stage, 
 use Rattle.ck_htlaw.specs.Table.{Layout, view, Action, inserts, stands, deletes, nothing, begins_rebuild, copies, publishes, tidies, no_action, WriterState}
 use Rattle.ck_htlaw.specs.Layout.{log_of}
 use Rattle.ck_htplan.specs.Planning.{plan_of}
+use Rattle.ck_htplan.specs.Deciding as deciding
+use Rattle.ck_htplan.specs.Deciding.{next_full}
 
 -- the most pairs of a table
 abbrev pub most : ℕ
 most = 262144
-
--- the first full slot from j on, of n slots
-abbrev pub next_full : (ℕ → ℕ) → ℕ → ℕ → Option ℕ
-next_full state zero j = None
-next_full state (suc n) j = cond (state j == 1) (Some j) (next_full state n (suc j))
 
 module _ (l : Layout) (p : WriterState) where
   -- the slots of the present region, as the writer's stores left them
@@ -113,24 +110,18 @@ module _ (l : Layout) (p : WriterState) where
   by_stage (copying call root j idle) e = to_copy (opening_of call) root j (next_full slots_now.state (order_now.slots - j) j)
   by_stage g e = no_action
 
-  -- what a call answers, by its first step
+  -- what a call answers, by its first step: what is decided on its update
   abbrev pub added : Reply
-  added = cond (nat_lt keys_now most) Fresh Full
+  added = deciding.added most (log_of p.root) order_now slots_now
 
   abbrev pub set_reply : Plan → Reply
-  set_reply (Stand at) = Was (slots_now.value at)
-  set_reply (Move to from) = Was (slots_now.value from)
-  set_reply plan = added
+  set_reply = deciding.set_reply most (log_of p.root) order_now slots_now
 
   abbrev pub put_reply : Plan → Reply
-  put_reply (Stand at) = Has (slots_now.value at)
-  put_reply (Move to from) = Has (slots_now.value from)
-  put_reply plan = added
+  put_reply = deciding.put_reply most (log_of p.root) order_now slots_now
 
   abbrev pub remove_reply : Plan → Reply
-  remove_reply (Stand at) = Was (slots_now.value at)
-  remove_reply (Move to from) = Was (slots_now.value from)
-  remove_reply plan = Missing
+  remove_reply = deciding.remove_reply most (log_of p.root) order_now slots_now
 
   abbrev pub answer_to : Opening → LogEntry ℕ
   answer_to (setting key value) = record { update = Set key value; reply = set_reply (plan_now key) }

@@ -2,7 +2,8 @@
 use Rattle.std.specs.Prelude.{◌≡◌, ℕ, ◌≤◌, List, [], ◌∷◌, ◌++◌}
 use Rattle.ck_run.specs.declared.account.Entry.{Entry}
 use Rattle.ck_htlaw.specs.Stages.{Maps}
-use Rattle.ck_htlaw.specs.Look.{LookState, no_look}
+use Rattle.ck_htlaw.specs.Law.{look_state_of}
+use Rattle.ck_htlaw.specs.Look.{no_look}
 use Rattle.ck_htlaw.specs.Table.{Layout, Action, WriterState, LocalState, writer, reader, next, May, mark, linearized_of}
 use Rattle.ck_htlaw.specs.Invariant.{SideCondition}
 use Rattle.ck_htlaw.specs.Trace.{Trace, Scene, goes, after, IsLegal}
@@ -14,10 +15,6 @@ maps_of (reader y) = λ i k. 0
 -- the map at a moment: 0 for an absent key, else 1 more than its value
 abbrev pub map_at : Scene LocalState (ℕ → ℕ) → ℕ → ℕ
 map_at w = maps_of (w.at 0) (linearized_of (w.at 0))
-
-abbrev pub look_state_of : LocalState → LookState
-look_state_of (writer p) = no_look
-look_state_of (reader y) = y.look_state
 
 module _ (l : Layout) (action : WriterState → Entry → Action) (key_of : List ℕ → ℕ) where
   abbrev pub then : Scene LocalState (ℕ → ℕ) → Trace → Scene LocalState (ℕ → ℕ)

@@ -1,6 +1,6 @@
 -- The law of a table: what every true run of a domain whose client holds it keeps, at each of its moments. A moment is the part of the run
 -- that is past.
-use Rattle.std.specs.Prelude.{◌≡◌, ◌≢◌, ℕ, suc, ◌+◌, ◌-◌, ◌*◌, ◌<◌, ◌≤◌, ◌&&◌, ◌⊎◌, not, true, Option, List, [], ◌∷◌, ◌++◌, length, slice_index}
+use Rattle.std.specs.Prelude.{◌≡◌, ◌≢◌, ℕ, suc, ◌-◌, ◌*◌, ◌<◌, ◌≤◌, ◌&&◌, ◌⊎◌, not, true, Option, List, [], ◌∷◌, ◌++◌, length, slice_index}
 use Rattle.std.specs.Ordering.{nat_cmp}
 use Rattle.ck_run.specs.declared.account.Step.TheVariants.{Load}
 use Rattle.ck_run.specs.declared.account.Entry.{Entry}
@@ -113,9 +113,9 @@ module _ {D : Type 0} (host : Host D) (origin : Origin D) where
     -- the answer of each look is the map's at a moment of it
     pub answers : (past between rest : Run) (r : ℕ) (e e' : Entry) (k : ℕ) (x : Option ℕ) → IsTableRun (until past r e between ++ (suc r, e') ∷ rest) → IsLook past r e between e'
         → look_ends (look_state_of (local_in (until past r e between) (suc r))) e'.step ≡ (k, x) ∷ [] → GaveWithin past r e between k x
-    -- a look doesn't answer only where the counter of its region has risen since it was loaded: c was loaded first and n last
-    pub again : (past rest : Run) (r : ℕ) (e : Entry) (word c n : ℕ) → IsTableRun (past ++ (suc r, e) ∷ rest) → (is_table_word (lies host origin) e.step && not (is_single_load e.opens)) ≡ true → e.step ≡ Load word n
-        → (((k : ℕ) × (x : ℕ) × (look_state_of (local_in past (suc r)) ≡ checking_value k c x)) ⊎ ((k : ℕ) × (look_state_of (local_in past (suc r)) ≡ checking_absence k c))) → c ≤ n
+    -- a look doesn't answer only where the counter of its region has risen since it was loaded: c was loaded first, and the last load, of n, is of that counter
+    pub again : (past rest : Run) (r : ℕ) (e : Entry) (y : ReaderState) (word c n : ℕ) → IsTableRun (past ++ (suc r, e) ∷ rest) → (is_table_word (lies host origin) e.step && not (is_single_load e.opens)) ≡ true → e.step ≡ Load word n
+        → local_in past (suc r) ≡ reader y → (((k : ℕ) × (x : ℕ) × (y.look_state ≡ checking_value k c x)) ⊎ ((k : ℕ) × (y.look_state ≡ checking_absence k c))) → (word ≡ (lies host origin).counter y.root) × (c ≤ n)
     -- where no other token steps between its first step and its last, it gives the map then, and always answers
     pub alone : (past between rest : Run) (r : ℕ) (e e' : Entry) (k : ℕ) (x : Option ℕ) → IsTableRun (until past r e between ++ (suc r, e') ∷ rest) → IsLook past r e between e' → AreOf (suc r) between
         → look_ends (look_state_of (local_in (until past r e between) (suc r))) e'.step ≡ (k, x) ∷ [] → find nat_cmp (map_in past) k ≡ x
@@ -123,7 +123,7 @@ module _ {D : Type 0} (host : Host D) (origin : Origin D) where
         → (((k : ℕ) × (x : ℕ) × (look_state_of (local_in (until past r e between) (suc r)) ≡ checking_value k c x)) ⊎ ((k : ℕ) × (look_state_of (local_in (until past r e between) (suc r)) ≡ checking_absence k c))) → c ≡ n
     -- and it does so at most twice for each update, as counted where the writer is between two calls
     pub bounded : (past more : Run) (r : ℕ) (p : WriterState) → IsTableRun (past ++ more) → local_in past 0 ≡ writer p → p.stage ≡ idle → retries_of (local_in past (suc r)) ≤ 2 * length (log_in past)
-    -- the region that a look began with keeps its words and its counter from the store of the root on that replaced it
+    -- the region that a look began with keeps its words and its counter at each step while its root isn't the present one
     pub frozen : (past more : Run) (n : ℕ) (e : Entry) (r : ℕ) (y : ReaderState) → IsTableRun (past ++ (n, e) ∷ more) → local_in past (suc r) ≡ reader y → (y.look_state ≡ no_look → ⊥) → y.root ≢ root_in past → KeepsRegion past (past ++ (n, e) ∷ []) y.root
     -- A region that the writer takes or builds shares no word with one that was retired since a section opened that is still open
     pub reclaimed : (past rest : Run) (e : Entry) (p : WriterState) (root : ℕ) → IsTableRun (past ++ (0, e) ∷ rest) → local_in past 0 ≡ writer p → is_table_word (lies host origin) e.step ≡ true → IsUnpublishedBy (action (lies host origin) p e) p.stage root

@@ -81,15 +81,15 @@ linearizing p g log k x = record p { stage = g; linearized = suc p.linearized; m
 abbrev pub cleared : Layout → List ℕ → ℕ → ℕ → Stage
 cleared l call root i = cond (i == (l.order root).slots) (copying call root 0 idle) (clearing call root i)
 
-abbrev pub first : Layout → List ℕ → WriterState → Action → WriterState
-first l call p (inserts empty w) = record p { stage = with_value empty w }
-first l call p (inserts reuse w) = record p { stage = with_bump reuse w; bumps = suc p.bumps }
-first l call p (inserts (move from) w) = record p { stage = with_bump (move from) w; bumps = suc p.bumps }
-first l call p (stands k s v) = linearizing p idle (suc p.log) k (suc v)
-first l call p (deletes k s) = linearizing p with_tombstone p.log k 0
-first l call p nothing = record p { linearized = suc p.linearized; maps = repeated p.maps p.linearized; log = suc p.log }
-first l call p (begins_rebuild root) = record p { stage = cleared l call root 1 }
-first l call p a = p
+abbrev pub after_first : Layout → List ℕ → WriterState → Action → WriterState
+after_first l call p (inserts empty w) = record p { stage = with_value empty w }
+after_first l call p (inserts reuse w) = record p { stage = with_bump reuse w; bumps = suc p.bumps }
+after_first l call p (inserts (move from) w) = record p { stage = with_bump (move from) w; bumps = suc p.bumps }
+after_first l call p (stands k s v) = linearizing p idle (suc p.log) k (suc v)
+after_first l call p (deletes k s) = linearizing p with_tombstone p.log k 0
+after_first l call p nothing = record p { linearized = suc p.linearized; maps = repeated p.maps p.linearized; log = suc p.log }
+after_first l call p (begins_rebuild root) = record p { stage = cleared l call root 1 }
+after_first l call p a = p
 
 abbrev pub filled : WriterState → Target → Insertion → WriterState
 filled p empty w = linearizing p idle (suc p.log) w.key (suc w.number)
@@ -110,10 +110,10 @@ copy p call root j tidies idle = record p { root = root; stage = retiring_at_end
 copy p call root j a g = record p { stage = copied call root j a g }
 
 abbrev pub second : Layout → List ℕ → WriterState → Action → Stage → WriterState
-second l call p a idle = first l call p a
+second l call p a idle = after_first l call p a
 second l call p a (clearing c root i) = record p { stage = cleared l c root (suc i) }
 second l call p a (copying c root j g) = copy p c root j a g
-second l call p a (after_rebuild c) = first l c record p { stage = idle } a
+second l call p a (after_rebuild c) = after_first l c record p { stage = idle } a
 second l call p a (retiring old c) = p
 second l call p a (retiring_at_end old) = p
 second l call p a (with_bump c w) = record p { stage = with_value c w }

@@ -7,7 +7,7 @@ use Rattle.ck_epoch.specs.Calls.{dispatched_items}
 use Rattle.ck_epoch.specs.Ends.{Writer}
 use Rattle.ck_epoch.proofs.Polled.{config_is, were_retired, none_on, none_on_yet, left_retired, left_queue, rest_retired, rest_queue, writer_after, calls_after, kept_one, kept_two, gone_one, gone_two, gone_all, waits_two, waits_all, count_two, count_all, told_waiting, told_count}
 use Rattle.ck_epoch.proofs.Emptying.{are_dispatched}
-use Rattle.ck_epoch.proofs.domain.Domain.poll.Goals as goal
+use Rattle.ck_epoch.proofs.domain.Domain.poll_from.Goals as goal
 
 pub dispatch_list-before-requires-clause-items : goal.dispatch_list-before-requires-clause-items
 dispatch_list-before-requires-clause-items g c =
