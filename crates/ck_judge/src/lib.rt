@@ -1,5 +1,5 @@
-//! A judge of reports: whether a report could have come from given scripts, under some interleaving of the writer and
-//! the readers. `specs/Verdict.antt` says what each verdict means.
+//! A judge of reports: whether a report is a legal one of given scripts. `specs/Verdict.antt` says what each verdict
+//! means.
 #![tactic(auto)]
 
 mod bounds;

@@ -51,8 +51,8 @@ pub enum Verdict {
     Table { at: u64 },
 }
 
-/// The verdict on a report of the given scripts, which is exact: the report is legal if and only if some interleaving of
-/// the updates and the queries that the scripts allow gives it. `most` is how many pairs the map may have. For n updates
+/// The verdict on a report of the given scripts, which is exact: the report is legal if and only if it has the updates'
+/// replies and table, and the answers of each file have places, by the definition of legal answers. `most` is how many pairs the map may have. For n updates
 /// and m answers it takes O((n + m) log (n + m)) steps, one pass over the `hold` lines for each query file, and O(n + m)
 /// memory.
 pub fn judge<K: Ord + Copy>(

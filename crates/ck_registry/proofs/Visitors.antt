@@ -1,5 +1,6 @@
 -- The visitors of a new registry, for callers that take them out one by one, or close it with all.
-use Rattle.std.proofs.Common.{◌≡◌, ℕ, ◌+◌, Option, Some, None, MatchOption, option_to_list, List, [], ◌∷◌, ◌++◌, length, refl, ap, ◌∙◌, subst, arith}
+use Rattle.std.proofs.Common.{◌≡◌, ℕ, All, ◌+◌, Option, Some, None, MatchOption, option_to_list, List, [], ◌∷◌, ◌++◌, length, refl, ap, ◌∙◌, subst, arith}
+use Rattle.std.proofs.lemmas.List.Elements.{All-nil, All-cons}
 use Rattle.ck_run.specs.Tokens.{Table, table, number}
 use Rattle.ck_run.specs.Ends.{EachFrom, fresh}
 use Rattle.ck_run.proofs.Ends.{each_at}
@@ -22,6 +23,11 @@ last_fresh d room old xs None is h = tt
 last_fresh d room old xs (Some v) is h =
     let e = each_next (λ n w. w ≡ record { token = fresh d n; calls = 0; room = room }) 0 xs [] (xs ++ v ∷ []) v refl (subst (AreFreshVisitors d room 0) is h) in
     (ap (λ (w : Visitor). table w.token) e, ap (λ (w : Visitor). w.calls) e, ap (λ (w : Visitor). w.room) e)
+
+-- each is of the registry's table
+pub all_made : (d : Table ℕ) (room n : ℕ) (vs : List Visitor) → EachFrom (λ k v. v ≡ record { token = fresh d k; calls = 0; room = room }) n vs → All (λ (v : Visitor). table v.token ≡ d) vs
+all_made d room n [] h = All-nil (λ (v : Visitor). table v.token ≡ d)
+all_made d room n (v ∷ vs) h = All-cons (λ (w : Visitor). table w.token ≡ d) v vs (ap (λ (w : Visitor). table w.token) h.0) (all_made d room (n + 1) vs h.1)
 
 -- they are all of them
 pub all_visitors : (d : Table ℕ) (room : ℕ) (vs : List Visitor) → length vs ≡ d.origin.tokens → AreFreshVisitors d room 0 vs → AreAllVisitors d vs

@@ -85,6 +85,8 @@ impl Registry {
         ensures origin { IfOk result (λ r. (r.0.origin.config ≡ records) × (r.0.origin.tokens ≡ visitors)) }
         ensures words { IfOk result (λ r. IsOpening r.0.origin) }
         ensures visitors { IfOk result (λ r. (vec_len r.1 ≡ visitors) × AreFreshVisitors r.0 room 0 r.1.items) }
+        ensures made { IfOk result (λ r. All (λ v. table v.token ≡ r.0) r.1.items) }
+        ensures all { IfOk result (λ r. AreAllVisitors r.0 r.1.items) }
     {
         let mut others = Vec::with_capacity(alloc, (visitors - 1) as usize)?;
         let opening = Opening {

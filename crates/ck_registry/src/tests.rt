@@ -70,7 +70,7 @@ fn leave(registry: &Registry, m: Member) -> Result<Member, Visitor>
     requires table { table m.token ≡ registry.now }
     ensures { MatchResult result
         (λ k. k ≡ m)
-        (λ v. (table v.token ≡ table m.token) × (v.calls ≡ m.calls) × (v.room ≡ m.room)) }
+        (λ v. (table v.token ≡ table m.token) × (number v.token ≡ number m.token) × (v.calls ≡ m.calls) × (v.room ≡ m.room)) }
 {
     if m.depth() == 0 && m.pending() == 0 && m.waiting() == 0 {
         Err(registry.unregister(m))
@@ -210,11 +210,37 @@ fn a_race_for_an_epoch_and_a_record_that_is_taken_again(rt: HostRuntime) -> Resu
     Ok(())
 }
 
+// Takes a record, opens and ends a section, and hands the record back.
+fn pass_through(registry: &Registry, v: Visitor) -> Option<Visitor>
+    requires table { table v.token ≡ registry.now }
+    requires calls { v.calls < 2 ^ 16 }
+    ensures same { MatchOption result (Unit {0}) (λ w. (table w.token ≡ table v.token) × (number w.token ≡ number v.token)) }
+{
+    let mut m = registry.register(v).ok()?;
+    registry.begin(&mut m);
+    registry.end(&mut m);
+    leave(registry, m).err()
+}
+
 #[test]
 fn closes_with_all_visitors(rt: HostRuntime) -> Result<(), Fail> {
     let (registry, visitors) = Registry::new(rt.alloc(), 1, 2, 1)?;
     assert_eq!(rt; visitors[1].calls(), 0);
     registry.close(visitors);
+    Ok(())
+}
+
+#[test]
+fn closes_after_a_section(rt: HostRuntime) -> Result<(), Fail> {
+    let (registry, mut visitors) = Registry::new(rt.alloc(), 1, 1, 1)?;
+    let passed = match visitors.pop() {
+        Some(v) => pass_through(&registry, v),
+        None => None,
+    };
+    assert!(rt; passed.is_some());
+    if let Some(v) = passed {
+        registry.close(vec![in rt.alloc(); v]?);
+    }
     Ok(())
 }
 
