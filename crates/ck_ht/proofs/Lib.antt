@@ -5,9 +5,14 @@ pub mod BoundingEvents
 pub mod LogEvents
 pub mod UpdateEvents
 pub mod Staying
-pub mod Backs
+pub mod Regions
 pub mod Waits
-pub mod Few
+pub mod Keyed
+pub mod Polls
+pub mod Updates
+pub mod Tries
+pub mod Polled
+pub mod Results
 pub mod Settling
 pub mod Closing
 pub mod Sizes

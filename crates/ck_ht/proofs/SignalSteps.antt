@@ -33,7 +33,10 @@ use Rattle.ck_htwrite.specs.State.{Ready}
 use Rattle.ck_htwrite.specs.Arena.{AreTableItems}
 use Rattle.ck_htwrite.specs.Writes.{counters_in}
 use Rattle.ck_ht.specs.Ends.{IsBetweenUpdates, IsPassReady, IsWriterReady}
-use Rattle.ck_ht.proofs.Staying.{items_beside, ready_beside}
+use Rattle.ck_history.specs.declared.log.LogEntry.{LogEntry}
+use Rattle.ck_htlaw.specs.Linearized.{map_after}
+use Rattle.ck_htwrite.specs.Entries.{HasKeys}
+use Rattle.ck_ht.proofs.Staying.{items_beside, log_beside, ready_beside}
 use Rattle.ck_ht.specs.Events.{Reading, Writing, reached_result, answer_events, reached_event, answered_event, update_events, told_event, logs_next, reader_event, writer_event, pass_events, hand_events}
 use Rattle.ck_ht.proofs.Closing.{is_first}
 use Rattle.ck_ht.proofs.Elsewhere.{beyond, not_less, looks_still, ready_still, below_all, writer_still}
@@ -140,7 +143,9 @@ module _ (o : Origin (Signals HtClient)) where
     ready = ready_beside with_signals o w v s e r.ready made off none same;
     own = subst (AreTableItems (counters_in with_signals o) 0) (items_beside with_signals o w v e made same) r.own;
     given = ap (λ (x : Writer (Signals HtClient) F). x.waiting) made ∙ r.given;
-    room = ap (λ (x : Writer (Signals HtClient) F). x.room) made ∙ r.room;
+    room = subst (λ (k : ℕ). counters_in with_signals o ≤ k) (sym (ap (λ (x : Writer (Signals HtClient) F). x.room) made)) r.room;
+    half = r.half;
+    keys = subst (λ (us : List (LogEntry ℕ)). HasKeys (map_after us)) (sym (log_beside with_signals o w v s e r.ready made off none same)) r.keys;
   }
 
   -- one signal of a writer between two updates

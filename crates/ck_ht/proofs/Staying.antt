@@ -12,7 +12,8 @@ use Rattle.ck_htlaw.specs.Host.{Host, lies}
 use Rattle.ck_htlaw.specs.Known.{knows}
 use Rattle.ck_htlaw.specs.Table.{Layout, WriterState, writer, is_table_word}
 use Rattle.ck_htwrite.specs.declared.state.HtState.{HtState}
-use Rattle.ck_htwrite.specs.Arena.{IsKept, unreturned}
+use Rattle.ck_arena.specs.Arena.{unreturned}
+use Rattle.ck_htwrite.specs.Arena.{IsKept}
 use Rattle.ck_htwrite.specs.State.{IsReady, Ready}
 use Rattle.ck_htwrite.specs.Writes.{counters_in}
 use Rattle.ck_htwrite.proofs.Rebuilding.{with_arena}
@@ -49,6 +50,12 @@ module _ {D : Type 0} (host : Host D) (o : Origin D) where
         log,
       )
 
+  -- and what its account tells of it
+  pub local_outside : {F : Type 0} (w v : Writer D F) (s : HtState) (es : List Entry) → IsReady host o w.token s → v.token ≡ adding w.token es → AreOutside es → (knows host o v.token).local ≡ (knows host o w.token).local
+  local_outside w v s es r made off =
+      let after : knows host o v.token ≡ state_after (answers_next l) (knows host o w.token) es = ap (knows host o) made ∙ state-append (answers_next l) (answers_after l o.words (number w.token) []) (did w.token) es in
+      ap (λ (a : Answers). a.local) after ∙ ((stays (knows host o w.token) r.is_writer es r.is off).0 ∙ sym r.is)
+
   -- one step that retires and dispatches nothing
   pub items_beside : {F : Type 0} (w v : Writer D F) (e : Entry) → v ≡ record w { token = adding w.token (e ∷ []) } → SameItemsAndEpoch w.token v.token → unreturned (state w.token) w.waiting ≡ unreturned (state v.token) v.waiting
   items_beside {F} w v e made same i = unreturned (record (state v.token) { pending = sym same.0 i; dispatched = sym same.1 i }) (sym (ap (λ (x : Writer D F). x.waiting) made) i)
@@ -58,6 +65,12 @@ module _ {D : Type 0} (host : Host D) (o : Origin D) where
       let items = items_beside w v e made same in
       (ready_outside w v s (e ∷ []) r (ap (λ (x : Writer D F). x.token) made) (off, none, tt) (ap (λ (x : Writer D F). x.tally) made) (let c = ap (λ (x : Writer D F). x.calls) made in omega arith)
       (subst (λ ks. IsKept (counters_in host o) (host.place o.config.client) s.root ks s.arena) items r.arena)).0
+
+  pub log_beside : {F : Type 0} (w v : Writer D F) (s : HtState) (e : Entry) → Ready host o w s → v ≡ record w { token = adding w.token (e ∷ []) } → is_table_word l e.step ≡ false → e.item ≡ [] → SameItemsAndEpoch w.token v.token → (knows host o v.token).log ≡ (knows host o w.token).log
+  log_beside {F} w v s e r made off none same =
+      let items = items_beside w v e made same in
+      (ready_outside w v s (e ∷ []) r (ap (λ (x : Writer D F). x.token) made) (off, none, tt) (ap (λ (x : Writer D F). x.tally) made) (let c = ap (λ (x : Writer D F). x.calls) made in omega arith)
+      (subst (λ ks. IsKept (counters_in host o) (host.place o.config.client) s.root ks s.arena) items r.arena)).1
 
   -- once answers were given back
   pub ready_given : {F : Type 0} (v v' : Writer D F) (s s' : HtState) → Ready host o v s → v' ≡ record v { waiting = [] } → s' ≡ record s { arena = s'.arena }

@@ -19,7 +19,7 @@ module _ (records : ℕ) where
   abbrev pub IsLow : Step → Type 0
   IsLow s = word_of s < base records
 
-  low_look : (rec : ℕ) (l : RecordLook) → rec < records → All IsLow (look_steps rec l)
+  pub low_look : (rec : ℕ) (l : RecordLook) → rec < records → All IsLow (look_steps rec l)
   low_look rec l low = All-cons IsLow (Load (active_word rec) l.active) (cond (l.active == 0) [] (Load (epoch_word rec) l.epoch ∷ [])) (omega arith) (by (l.active == 0))
     where
       by : (b : Bool) → All IsLow (cond b [] (Load (epoch_word rec) l.epoch ∷ []))

@@ -1,19 +1,20 @@
 -- The tokens of a table that has a domain of its own, with signals.
-use Rattle.std.specs.Prelude.{◌≡◌, ◌-◌, ◌≤◌, List, [], drop, length}
-use Rattle.ck_words.specs.declared.back.Back.{Back}
-use Rattle.ck_epoch.specs.State.{Origin, TokenState, queue, state}
-use Rattle.ck_epoch.specs.Lists.{homes}
+use Rattle.std.specs.Prelude.{◌≡◌, ◌+◌, ◌*◌, ◌^◌, ◌≤◌, [], length}
+use Rattle.ck_epoch.specs.State.{Origin, state}
 use Rattle.ck_epoch.specs.Ends.{Writer, Pass}
 use Rattle.ck_signal.specs.declared.signals.Signals.{Signals}
 use Rattle.ck_htlaw.specs.declared.client.HtClient.{HtClient}
-use Rattle.ck_htlaw.specs.Client.{home_of}
 use Rattle.ck_htlaw.specs.Known.{knows}
+use Rattle.ck_htlaw.specs.Layout.{arena_words, log_of}
+use Rattle.ck_htlaw.specs.Linearized.{map_after}
 use Rattle.ck_htlaw.specs.Reached.{with_signals}
 use Rattle.ck_htlaw.specs.Stages.{idle}
 use Rattle.ck_htlaw.specs.Table.{WriterState, LocalState, writer}
 use Rattle.ck_htread.specs.Reading.{IsBetweenLooks}
 use Rattle.ck_htwrite.specs.declared.state.HtState.{HtState}
-use Rattle.ck_htwrite.specs.Arena.{AreTableItems, unreturned}
+use Rattle.ck_arena.specs.Arena.{unreturned}
+use Rattle.ck_htwrite.specs.Arena.{AreTableItems}
+use Rattle.ck_htwrite.specs.Entries.{HasKeys}
 use Rattle.ck_htwrite.specs.State.{Ready}
 use Rattle.ck_htwrite.specs.Writes.{counters_in}
 
@@ -22,16 +23,15 @@ pub record HtWriter (F : Type 0) : Type 0 where
   pub writer : Writer (Signals HtClient) F
   pub state : HtState
 
--- the answers that wait are the homes of the items that were dispatched last
-abbrev pub AreBacks : TokenState → List Back → Type 0
-AreBacks t waiting = waiting ≡ homes home_of (drop (length t.dispatched - length waiting) (queue t.dispatched))
-
--- The writer is between two updates, with its lists. All that polls dispatched is given back, and what it retired are regions of the table
+-- The writer is between two updates, with its lists. All that polls dispatched is given back, what it retired are regions of the table, and there
+-- is room for as many as the arena has pieces. The present region has at most half of the arena, and each key of the map is one
 pub record IsWriterReady {F : Type 0} (o : Origin (Signals HtClient)) (w : Writer (Signals HtClient) F) (s : HtState) : Type 0 where
   pub ready : Ready with_signals o w s
   pub own : AreTableItems (counters_in with_signals o) 0 (unreturned (state w.token) w.waiting)
   pub given : w.waiting ≡ []
-  pub room : w.room ≡ 262144
+  pub room : counters_in with_signals o ≤ w.room
+  pub half : 2 * 2 ^ (log_of s.root + 2) ≤ arena_words (counters_in with_signals o)
+  pub keys : HasKeys (map_after (knows with_signals o w.token).log)
 
 -- the writer is between two updates
 abbrev pub IsIdle : LocalState → Type 0

@@ -7,9 +7,10 @@ ghost use Rattle.ck_epoch.specs.Rounds.{Rounds};
 ghost use Rattle.ck_htlaw.specs.Client.{home_of};
 ghost use Rattle.ck_htlaw.specs.Known.{knows};
 ghost use Rattle.ck_htlaw.specs.Reached.{with_signals};
-ghost use Rattle.ck_htwrite.specs.Arena.{unreturned, AreTableItems, IsKept};
+ghost use Rattle.ck_arena.specs.Arena.{unreturned, AreBacks};
+ghost use Rattle.ck_htwrite.specs.Arena.{AreTableItems, IsKept};
 ghost use Rattle.ck_htwrite.specs.Writes.{counters_in};
-ghost use Rattle.ck_ht.specs.Ends.{AreBacks, IsWriterReady};
+ghost use Rattle.ck_ht.specs.Ends.{IsWriterReady};
 ghost use Rattle.ck_ht.specs.Events.{hand_events};
 
 use ck_epoch::{Domain, Item, Writer};
@@ -28,7 +29,7 @@ pub(crate) fn give_back<F>(
     requires table { table writer.old.token ≡ domain.now }
     requires kept { IsKept (counters_in with_signals domain.now.origin) 0 state.old.root (unreturned (epochs writer.old.token) writer.old.waiting) state.old.arena }
     requires own { AreTableItems (counters_in with_signals domain.now.origin) 0 (unreturned (epochs writer.old.token) writer.old.waiting) }
-    requires backs { AreBacks (epochs writer.old.token) writer.old.waiting }
+    requires backs { AreBacks (λ item. home_of item) (epochs writer.old.token) writer.old.waiting }
     ensures writer { writer.new ≡ record writer.old { waiting = [] } }
     ensures lists { state.new ≡ record state.old { arena = state.new.arena } }
     ensures kept { IsKept (counters_in with_signals domain.now.origin) 0 state.new.root (unreturned (epochs writer.new.token) writer.new.waiting) state.new.arena }

@@ -7,6 +7,7 @@ pub mod part;
 mod table;
 #[cfg(test)]
 mod tests;
+mod updating;
 
 pub use ck_htlaw::HtClient;
 pub use table::{Ht, HtPass, HtWriter, home};

@@ -1,5 +1,5 @@
 //! A table with a domain of its own.
-ghost use Rattle.std.specs.Prelude.{true, ◌≡◌, ℕ, ◌+◌, ◌-◌, ◌<◌, ◌≤◌, ◌^◌, Option, List, [], ◌∷◌, ◌++◌, length, vec_len, IfOk, MatchResult, All};
+ghost use Rattle.std.specs.Prelude.{true, ◌≡◌, ℕ, ◌+◌, ◌-◌, ◌<◌, ◌≤◌, ◌^◌, Option, List, [], ◌∷◌, ◌++◌, length, vec_len, IfOk, IfErr, IsOk, MatchResult, All};
 ghost use Rattle.std.specs.Ordering.{nat_cmp};
 ghost use Rattle.ck_run.specs.declared.account.Step.{Step};
 ghost use Rattle.ck_run.specs.declared.account.Step.TheVariants.{Store};
@@ -19,7 +19,8 @@ ghost use Rattle.ck_history.specs.declared.event.ReaderEvent.TheVariants.{Answer
 ghost use Rattle.ck_history.specs.Map.{step};
 ghost use Rattle.ck_history.specs.declared.event.WriterEvent.TheVariants.{Updated, Told};
 ghost use Rattle.ck_history.specs.declared.log.Look.TheVariants.{Again};
-ghost use Rattle.ck_history.specs.declared.update.Update.TheVariants.{Del};
+ghost use Rattle.ck_history.specs.declared.update.Update.TheVariants.{Set, Put, Del, Tidy};
+ghost use Rattle.ck_history.specs.declared.update.Reply.TheVariants.{Tidied};
 ghost use Rattle.ck_htlaw.specs.Actions.{most, plan_now};
 ghost use Rattle.ck_htlaw.specs.Calls.{remove as removing};
 ghost use Rattle.ck_htlaw.specs.Client.{table as table_client, is_region, home_of};
@@ -38,12 +39,14 @@ ghost use Rattle.ck_ht.specs.Closed.{IsClosedTable};
 ghost use Rattle.ck_ht.specs.Ends.{IsPassReady};
 ghost use Rattle.ck_ht.specs.Events.{answer_events, pass_events, hand_events};
 ghost use Rattle.ck_ht.specs.Getting.{Gets};
-ghost use Rattle.ck_ht.specs.Room.{IsRoomFor};
+ghost use Rattle.ck_ht.specs.Room.{HasRoomFor, IsRoomFor};
+ghost use Rattle.ck_ht.specs.Updating.{MakesUpdate, IsBusy};
 
 use crate::giving::give_all;
 use crate::laws::settled_law;
+use crate::updating::apply;
 use ck_epoch::{Closed, Domain, Item, Pass, Writer};
-use ck_history::{Key, Look, Reply};
+use ck_history::{Busy, Key, Look, Reply, Update};
 use ck_htlaw::HtClient;
 use ck_htwrite::HtState;
 use ck_signal::Signals;
@@ -122,7 +125,7 @@ const OPENING_LOG: u64 = 3;
 
 const LARGEST_LOG: u64 = 19;
 
-// The logarithm of the words of four regions with the most slots that a map of at most so many keys comes to.
+// The logarithm of the words of four regions with the fewest slots that are at least twice as many as the keys.
 fn room_log(keys: u64) -> u64
     requires { keys ≤ 262144 }
     ensures room { IsRoomFor keys result }
@@ -147,6 +150,7 @@ impl Ht {
         requires readers { (1 ≤ readers) × (readers ≤ 64) }
         requires handler { Answers (λ item. true) (λ item. home_of item) (F.pre handler) (F.post handler) }
         ensures client { IfOk result (λ r. r.0.origin.config.client.client ≡ record { seed = seed; arena_log = 23 }) }
+        ensures signals { IfOk result (λ r. r.0.origin.config.client.records ≡ readers) }
         ensures writer { IfOk result (λ r. (r.1.writer.token ≡ fresh r.0 0) × (hand_events r.0.origin r.1.writer.token ≡ [])) }
         ensures counted { IfOk result (λ r. (r.1.writer.calls ≡ 0) × (r.1.writer.handler ≡ handler)) }
         ensures passes { IfOk result (λ r. (vec_len r.2 ≡ readers) × AreFreshPasses r.0 1 r.2.items) }
@@ -161,8 +165,9 @@ impl Ht {
         Ht::open(alloc, client, readers, handler)
     }
 
-    /// The same with the least arena in which a map of at most `keys` pairs has room for four regions of the most slots that it comes to: a
-    /// small table takes little memory, which is written twice when it is made. It may come to more pairs, and then a rebuild may find no room.
+    /// The same with a shorter arena, of four regions of the fewest slots, from 8 on, that are at least twice `keys`: a small table takes
+    /// little memory, which is written twice when it is made. `set` and `put` ask that the map comes to no more pairs than the arena has room
+    /// for, which is at least `keys`.
     pub fn with_room<F: Fn(Item) -> Back + Drop>(
         alloc: Global,
         seed: u64,
@@ -174,6 +179,8 @@ impl Ht {
         requires readers { (1 ≤ readers) × (readers ≤ 64) }
         requires handler { Answers (λ item. true) (λ item. home_of item) (F.pre handler) (F.post handler) }
         ensures client { (log : ℕ) × IsRoomFor keys log × IfOk result (λ r. r.0.origin.config.client.client ≡ record { seed = seed; arena_log = log }) }
+        ensures signals { IfOk result (λ r. r.0.origin.config.client.records ≡ readers) }
+        ensures room { IfOk result (λ r. HasRoomFor r.0.origin.config.client.client.arena_log keys) }
         ensures writer { IfOk result (λ r. (r.1.writer.token ≡ fresh r.0 0) × (hand_events r.0.origin r.1.writer.token ≡ [])) }
         ensures counted { IfOk result (λ r. (r.1.writer.calls ≡ 0) × (r.1.writer.handler ≡ handler)) }
         ensures passes { IfOk result (λ r. (vec_len r.2 ≡ readers) × AreFreshPasses r.0 1 r.2.items) }
@@ -195,11 +202,12 @@ impl Ht {
         readers: u64,
         handler: F,
     ) -> Result<(Ht, HtWriter<F>, Vec<HtPass>), AllocError>
-        requires most { client.arena_log ≤ 24 }
-        requires small { table_words (counters_of client) ≤ 2 ^ 32 }
+        requires least { 6 ≤ client.arena_log }
+        requires most { client.arena_log ≤ 23 }
         requires readers { (1 ≤ readers) × (readers ≤ 64) }
         requires handler { Answers (λ item. is_region client item) (λ item. home_of item) (F.pre handler) (F.post handler) }
         ensures client { IfOk result (λ r. r.0.origin.config.client.client ≡ client) }
+        ensures signals { IfOk result (λ r. r.0.origin.config.client.records ≡ readers) }
         ensures writer { IfOk result (λ r. (r.1.writer.token ≡ fresh r.0 0) × (hand_events r.0.origin r.1.writer.token ≡ [])) }
         ensures counted { IfOk result (λ r. (r.1.writer.calls ≡ 0) × (r.1.writer.handler ≡ handler)) }
         ensures passes { IfOk result (λ r. (vec_len r.2 ≡ readers) × AreFreshPasses r.0 1 r.2.items) }
@@ -302,6 +310,92 @@ impl Ht {
         unreachable!()
     }
 
+    /// Gives the key this value, as `ck_ht_set_spmc`, and answers what the map of one thread answers: whether the key is fresh, or else the value
+    /// that it had; or that 262,144 pairs are there already. The map is rebuilt first where more than three quarters of its slots would be in use.
+    /// Busy comes only where that is so, one poll was made, and the arena has no region for it still; nothing else was done then. The poll loaded
+    /// a record active, so Busy never comes while none is, nor where nothing is pending.
+    pub fn set<F: Fn(Item) -> Back>(
+        &self,
+        w: &mut HtWriter<F>,
+        key: Key,
+        value: u64,
+    ) -> Result<Reply, Busy>
+        requires table { table w.old.writer.token ≡ self.now }
+        requires calls { w.old.writer.calls < 2 ^ 40 - 8 }
+        requires handler { Answers (λ item. true) (λ item. home_of item) (F.pre w.old.writer.handler) (F.post w.old.writer.handler) }
+        requires room { HasRoomFor self.now.origin.config.client.client.arena_log (length (step nat_cmp most (map_after (knows with_signals self.now.origin w.old.writer.token).log) (Set key value)).0) }
+        ensures same { w.new.writer ≡ record w.old.writer { token = w.new.writer.token; calls = w.new.writer.calls; tally = w.new.writer.tally } }
+        ensures tally { MatchResult result (λ r. w.new.writer.tally ≡ w.old.writer.tally + 1) (λ b. w.new.writer.tally ≡ w.old.writer.tally) }
+        ensures calls { w.new.writer.calls ≤ w.old.writer.calls + 3 }
+        ensures table { table w.new.writer.token ≡ table w.old.writer.token }
+        ensures reply { IfOk result (λ r. r ≡ (step nat_cmp most (map_after (knows with_signals self.now.origin w.old.writer.token).log) (Set key value)).1) }
+        ensures log { MatchResult result (λ r. (knows with_signals self.now.origin w.new.writer.token).log ≡ (knows with_signals self.now.origin w.old.writer.token).log ++ record { update = Set key value; reply = r } ∷ []) (λ b. (knows with_signals self.now.origin w.new.writer.token).log ≡ (knows with_signals self.now.origin w.old.writer.token).log) }
+        ensures events { MatchResult result (λ r. hand_events self.now.origin w.new.writer.token ≡ hand_events self.now.origin w.old.writer.token ++ Updated (Set key value) r ∷ []) (λ b. hand_events self.now.origin w.new.writer.token ≡ hand_events self.now.origin w.old.writer.token) }
+        ensures steps { IfOk result (λ r. (p : WriterState) → WriterIs with_signals self.now.origin w.old.writer.token p → MakesUpdate self.now.origin (Set key value) p w.old.writer.token w.new.writer.token) }
+        ensures busy { IfErr result (λ b. IsBusy self.now.origin (Set key value) w.old.writer w.old.state b w.new.writer w.new.state) }
+        ensures ok { (epochs w.old.writer.token).pending ≡ [] → IsOk result }
+        ensures pending { length (epochs w.new.writer.token).pending ≤ length (epochs w.old.writer.token).pending + 1 }
+    {
+        apply(
+            &self.domain,
+            &mut w.writer,
+            &mut w.state,
+            &Update::Set(key, value),
+        )
+    }
+
+    /// Gives the key this value if it is absent, as `ck_ht_put_spmc`, and else answers the value that it has. Full and Busy as in `set`.
+    pub fn put<F: Fn(Item) -> Back>(
+        &self,
+        w: &mut HtWriter<F>,
+        key: Key,
+        value: u64,
+    ) -> Result<Reply, Busy>
+        requires table { table w.old.writer.token ≡ self.now }
+        requires calls { w.old.writer.calls < 2 ^ 40 - 8 }
+        requires handler { Answers (λ item. true) (λ item. home_of item) (F.pre w.old.writer.handler) (F.post w.old.writer.handler) }
+        requires room { HasRoomFor self.now.origin.config.client.client.arena_log (length (step nat_cmp most (map_after (knows with_signals self.now.origin w.old.writer.token).log) (Put key value)).0) }
+        ensures same { w.new.writer ≡ record w.old.writer { token = w.new.writer.token; calls = w.new.writer.calls; tally = w.new.writer.tally } }
+        ensures tally { MatchResult result (λ r. w.new.writer.tally ≡ w.old.writer.tally + 1) (λ b. w.new.writer.tally ≡ w.old.writer.tally) }
+        ensures calls { w.new.writer.calls ≤ w.old.writer.calls + 3 }
+        ensures table { table w.new.writer.token ≡ table w.old.writer.token }
+        ensures reply { IfOk result (λ r. r ≡ (step nat_cmp most (map_after (knows with_signals self.now.origin w.old.writer.token).log) (Put key value)).1) }
+        ensures log { MatchResult result (λ r. (knows with_signals self.now.origin w.new.writer.token).log ≡ (knows with_signals self.now.origin w.old.writer.token).log ++ record { update = Put key value; reply = r } ∷ []) (λ b. (knows with_signals self.now.origin w.new.writer.token).log ≡ (knows with_signals self.now.origin w.old.writer.token).log) }
+        ensures events { MatchResult result (λ r. hand_events self.now.origin w.new.writer.token ≡ hand_events self.now.origin w.old.writer.token ++ Updated (Put key value) r ∷ []) (λ b. hand_events self.now.origin w.new.writer.token ≡ hand_events self.now.origin w.old.writer.token) }
+        ensures steps { IfOk result (λ r. (p : WriterState) → WriterIs with_signals self.now.origin w.old.writer.token p → MakesUpdate self.now.origin (Put key value) p w.old.writer.token w.new.writer.token) }
+        ensures busy { IfErr result (λ b. IsBusy self.now.origin (Put key value) w.old.writer w.old.state b w.new.writer w.new.state) }
+        ensures ok { (epochs w.old.writer.token).pending ≡ [] → IsOk result }
+        ensures pending { length (epochs w.new.writer.token).pending ≤ length (epochs w.old.writer.token).pending + 1 }
+    {
+        apply(
+            &self.domain,
+            &mut w.writer,
+            &mut w.state,
+            &Update::Put(key, value),
+        )
+    }
+
+    /// Rebuilds the map to as many slots where tombstones stand in it, as `ck_ht_gc_spmc`, but whole and at once, into another region; else it
+    /// does nothing. Busy as in `set`.
+    pub fn tidy<F: Fn(Item) -> Back>(&self, w: &mut HtWriter<F>) -> Result<Reply, Busy>
+        requires table { table w.old.writer.token ≡ self.now }
+        requires calls { w.old.writer.calls < 2 ^ 40 - 8 }
+        requires handler { Answers (λ item. true) (λ item. home_of item) (F.pre w.old.writer.handler) (F.post w.old.writer.handler) }
+        ensures same { w.new.writer ≡ record w.old.writer { token = w.new.writer.token; calls = w.new.writer.calls; tally = w.new.writer.tally } }
+        ensures tally { MatchResult result (λ r. w.new.writer.tally ≡ w.old.writer.tally + 1) (λ b. w.new.writer.tally ≡ w.old.writer.tally) }
+        ensures calls { w.new.writer.calls ≤ w.old.writer.calls + 3 }
+        ensures table { table w.new.writer.token ≡ table w.old.writer.token }
+        ensures reply { IfOk result (λ r. r ≡ Tidied) }
+        ensures log { MatchResult result (λ r. (knows with_signals self.now.origin w.new.writer.token).log ≡ (knows with_signals self.now.origin w.old.writer.token).log ++ record { update = Tidy; reply = r } ∷ []) (λ b. (knows with_signals self.now.origin w.new.writer.token).log ≡ (knows with_signals self.now.origin w.old.writer.token).log) }
+        ensures events { MatchResult result (λ r. hand_events self.now.origin w.new.writer.token ≡ hand_events self.now.origin w.old.writer.token ++ Updated Tidy r ∷ []) (λ b. hand_events self.now.origin w.new.writer.token ≡ hand_events self.now.origin w.old.writer.token) }
+        ensures steps { IfOk result (λ r. (p : WriterState) → WriterIs with_signals self.now.origin w.old.writer.token p → MakesUpdate self.now.origin Tidy p w.old.writer.token w.new.writer.token) }
+        ensures busy { IfErr result (λ b. IsBusy self.now.origin Tidy w.old.writer w.old.state b w.new.writer w.new.state) }
+        ensures ok { (epochs w.old.writer.token).pending ≡ [] → IsOk result }
+        ensures pending { length (epochs w.new.writer.token).pending ≤ length (epochs w.old.writer.token).pending + 1 }
+    {
+        apply(&self.domain, &mut w.writer, &mut w.state, &Update::Tidy)
+    }
+
     /// Removes the key, as `ck_ht_remove_spmc`, and answers the value that it had, or that it was missing.
     pub fn remove<F>(&self, w: &mut HtWriter<F>, key: Key) -> Reply
         requires table { table w.old.writer.token ≡ self.now }
@@ -332,6 +426,15 @@ impl Ht {
         ensures count { result ≡ length (epochs w.old.writer.token).pending }
     {
         give_all(&self.domain, rt, &mut w.writer, &mut w.state)
+    }
+
+    /// The pairs of the map now, by ascending key. The only error is want of memory.
+    pub fn entries<F>(&self, alloc: Global, w: &HtWriter<F>) -> Result<Vec<(Key, u64)>, AllocError>
+        requires table { table w.now.writer.token ≡ self.now }
+        ensures { IfOk result (λ r. r.items ≡ map_after (knows with_signals self.now.origin w.now.writer.token).log) }
+    {
+        let _updates = w.writer.tally(); // contracts see by it that the token is a writer's in a true run
+        w.state.entries(alloc)
     }
 
     /// How many slots the map has now.

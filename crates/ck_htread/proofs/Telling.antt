@@ -20,7 +20,7 @@ use Rattle.ck_htlaw.specs.Actions.{action}
 use Rattle.ck_htlaw.specs.Client.{Answers, answers_next, answers_after, looks_next, table_next, local_after, first_writer}
 use Rattle.ck_htlaw.specs.Host.{Host, lies}
 use Rattle.ck_htlaw.specs.Known.{knows}
-use Rattle.ck_htlaw.specs.Law.{TableLaw, IsTableRun, local_in, look_state_of}
+use Rattle.ck_htlaw.specs.Law.{TableLaw, IsTableRun, local_in}
 use Rattle.ck_htread.specs.Scan.{state_after_scan}
 use Rattle.ck_htread.specs.Reading.{LookTotals, IsInState}
 use Rattle.ck_htread.specs.Answered.{looks_in, HasPlace, PlacesLaw, HasAnswered}
@@ -69,7 +69,7 @@ module _ {D : Type 0} (host : Host D) (o : Origin D) where
       let m = split (number t) v.run (did t) e [] v.mine in
       let is_run : IsTableRun host o (m.past ++ (suc n.0, e) ∷ m.rest) = subst (λ (k : ℕ). IsTableRun host o (m.past ++ (k, e) ∷ m.rest)) n.1 (subst (λ (q : Origin D). IsTableRun host q (m.past ++ (number t, e) ∷ m.rest)) same (subst (IsTableRun host (origin t)) m.parts v.is_run)) in
       let local_r : local_in host o m.past (suc n.0) ≡ reader y = subst (λ (k : ℕ). local_after l o.words k (account k m.past) ≡ reader y) n.1 (ap (local_after l o.words (number t)) m.before ∙ local_t) in
-      law.again m.past m.rest n.0 e word c x is_run (ap (λ (b : Bool). b && true) (is_inside l e.step low high)) refl (by found (ap look_state_of local_r))
+      (law.again m.past m.rest n.0 e y word c x is_run (ap (λ (b : Bool). b && true) (is_inside l e.step low high)) refl local_r (by found refl)).1
     where
       by : (s : Option ℕ) → {h : LookState} → h ≡ state_after_scan (l.order root) key c s → ((k : ℕ) × (z : ℕ) × (h ≡ checking_value k c z)) ⊎ ((k : ℕ) × (h ≡ checking_absence k c))
       by (Some v) is = inl (key, v, is)

@@ -13,7 +13,8 @@ use Rattle.ck_htplan.proofs.Orders.{order_is}
 use Rattle.ck_htlaw.specs.declared.client.HtClient.{HtClient}
 use Rattle.ck_htlaw.specs.Layout.{log_of, layout}
 use Rattle.ck_htlaw.specs.Table.{Layout, WriterState, column, view}
-use Rattle.ck_htlaw.specs.Actions.{slots_now, keys_now, tombstones_now, plan_now, next_full}
+use Rattle.ck_htlaw.specs.Actions.{slots_now, keys_now, tombstones_now, plan_now}
+use Rattle.ck_htplan.specs.Deciding.{next_full}
 use Rattle.ck_htlaw.specs.Client.{orders_of, hash_of}
 use Rattle.ck_htwrite.specs.declared.state.HtState.{HtState}
 use Rattle.ck_htwrite.specs.State.{Mirrors, Reflects}

@@ -1,6 +1,6 @@
 -- The writer's end between two calls.
-use Rattle.std.proofs.Common.{◌≡◌, ℕ, ◌+◌, ◌^◌, ◌<◌, ◌≤◌, List, [], ◌∷◌, length, length-append, refl, sym, ap, ◌∙◌, subst, arith, ⊎_elim, inl, inr}
-use Rattle.std.specs.Prelude.{IfErr, MatchResult, None}
+use Rattle.std.proofs.Common.{◌≡◌, ℕ, ◌+◌, ◌^◌, ◌<◌, ◌≤◌, ◌⊎◌, List, [], ◌∷◌, length, length-append, refl, sym, ap, ◌∙◌, subst, arith, ⊎_elim, inl, inr}
+use Rattle.std.specs.Prelude.{IfErr, MatchResult, None, Some}
 use Rattle.std.specs.Result.{IsErrAnd}
 use Rattle.std.specs.declared.result.Result.{Result}
 use Rattle.std.specs.declared.result.Result.TheVariants.{Ok, Err}
@@ -10,6 +10,7 @@ use Rattle.ck_run.specs.declared.account.Step.{Step}
 use Rattle.ck_run.specs.Tokens.{adding, origin, number}
 use Rattle.ck_history.specs.declared.log.LogEntry.{LogEntry}
 use Rattle.ck_history.specs.declared.update.Reply.{Reply}
+use Rattle.ck_history.specs.Key.{number_of_words}
 use Rattle.ck_history.specs.Map.{find, step}
 use Rattle.ck_htplan.specs.declared.cases.Plan.TheVariants.{Empty}
 use Rattle.ck_htlaw.specs.Stages.{after_rebuild}
@@ -21,19 +22,21 @@ use Rattle.ck_htlaw.specs.Host.{Host, first, inner, lies}
 use Rattle.ck_htlaw.specs.Calls.{Opening, opening_of}
 use Rattle.ck_htlaw.specs.Layout.{log_of}
 use Rattle.ck_htlaw.specs.Table.{Layout, WriterState, writer, view}
-use Rattle.ck_htlaw.specs.Actions.{most, answer_to, plan_now, slots_now, tombstones_now}
+use Rattle.ck_htlaw.specs.Actions.{most, answer_to, keys_now, plan_now, slots_now, tombstones_now}
 use Rattle.ck_htlaw.specs.Client.{table}
 use Rattle.ck_htlaw.specs.Linearized.{map_after}
 use Rattle.ck_htlaw.specs.Known.{knows}
 use Rattle.ck_htwrite.specs.declared.state.HtState.{HtState}
 use Rattle.ck_htwrite.specs.declared.state.Need.{Need}
-use Rattle.ck_htwrite.specs.Arena.{HasNoneFree, IsKept, MayAddRegion, unreturned}
+use Rattle.ck_arena.specs.Arena.{HasNoneFree, unreturned}
+use Rattle.ck_htwrite.specs.Arena.{AddsRegion, IsKept, MayAddRegion}
+use Rattle.ck_htwrite.specs.Entries.{HasKeys, HoldsMap}
 use Rattle.ck_htwrite.specs.State.{IsReady, Ready, counter_at, next_count}
 use Rattle.ck_htplan.specs.declared.cases.Plan.{Plan}
 use Rattle.ck_htwrite.specs.Updates.{IsDone, IsGrown, IsMade, IsOver, IsRebuildDue, Makes, needed_log}
 use Rattle.ck_htwrite.specs.Writes.{opened, Steps, WriterIs, counters_in}
 use Rattle.ck_htwrite.proofs.Agree.{agree, agree_now}
-use Rattle.ck_htwrite.proofs.Facts.{absent, empty_after, has_hole, few_bumps, log_is, right, keys_once}
+use Rattle.ck_htwrite.proofs.Facts.{absent, as_many, holds_map, empty_after, has_hole, few_bumps, log_is, right, keys_once}
 
 -- what holds of an error
 pub if_err : (r : Result Reply Need) (P Q : Need → Type 0) → IsErrAnd r P → ((e : Need) → P e → Q e) → IfErr r Q
@@ -77,6 +80,24 @@ module _ {D : Type 0} (h : Host D) (within : IsWithin table h.client h.place h.p
     -- a key whose plan names an empty slot is absent
     pub not_found : (key at : ℕ) → plan_now l p key ≡ Empty at → find nat_cmp (map_after (knows h o t).log) key ≡ None
     not_found key at = subst (λ (q : Origin D). plan_now (lies h q) p key ≡ Empty at → find nat_cmp (map_after (knows h q t).log) key ≡ None) same (absent h within t part zero p is_then r.idles key at)
+
+    -- the map has as many pairs as slots are full
+    pub as_many_pairs : keys_now l p ≡ length (map_after (knows h o t).log)
+    as_many_pairs = subst (λ (q : Origin D). keys_now (lies h q) p ≡ length (map_after (knows h q t).log)) same (as_many h within t part zero p is_then r.idles)
+
+    -- the full slots of the lists hold the pairs of the map
+    pub holds_pairs : HasKeys (map_after (knows h o t).log) → HoldsMap (view_of s.words.items) (2 ^ log_of s.root) (map_after (knows h o t).log)
+    holds_pairs keys =
+        let m = map_after (knows h o t).log in
+        let g = agree_now (base_of (inner h o)) (first h o) n (inner h o).config.client p s r.reflects in
+        let many : 2 ^ log_of s.root ≡ 2 ^ log_of p.root = ap (λ (x : ℕ). 2 ^ log_of x) (sym r.reflects.root) in
+        let there = subst (λ (q : Origin D). HasKeys (map_after (knows h q t).log) → HoldsMap (slots_now (lies h q) p) ((lies h q).order p.root).slots (map_after (knows h q t).log)) same (holds_map h within t part zero p is_then r.idles) keys in
+        record {
+          sorted = there.sorted;
+          keys = keys;
+          full = λ a low is. ap (find nat_cmp m) (λ i. number_of_words (g.high a low is i) (g.low a low is i)) ∙ (there.full a (subst (λ (k : ℕ). a < k) many low) (sym (g.state a low) ∙ is) ∙ ap (λ (x : ℕ). Some x) (sym (g.value a low is)));
+          none = λ k not. there.none k (λ a low is e. let here = subst (λ (x : ℕ). a < x) (sym many) low in let full = g.state a here ∙ is in not a here full ((λ i. number_of_words (g.high a here full i) (g.low a here full i)) ∙ e));
+        }
 
     -- no two full slots of the lists have the same key
     pub once : (a b : ℕ) → a < 2 ^ log_of s.root → b < 2 ^ log_of s.root → (view_of s.words.items).state a ≡ 1 → (view_of s.words.items).state b ≡ 1 → (view_of s.words.items).low a ≡ (view_of s.words.items).low b → (view_of s.words.items).high a ≡ (view_of s.words.items).high b → a ≡ b
@@ -178,6 +199,10 @@ module _ {D : Type 0} (h : Host D) (within : IsWithin table h.client h.place h.p
         (λ (x : Made). inl (λ i. unreturned (record (state w'.token) { pending = x.0.made.same.0 i; dispatched = x.0.made.same.1 i }) ((ap (λ (v : Writer D F). v.waiting) x.0.made.made) i)))
         (λ (x : Grown). inr x.items)
         done
+
+    -- the region is as before, or it was replaced and isn't given back
+    pub done_root : (s'.root ≡ s.root) ⊎ AddsRegion n (h.place o.config.client) (unreturned (state w.token) w.waiting) (unreturned (state w'.token) w'.waiting)
+    done_root = ⊎_elim (λ (x : Made). inl x.1) (λ (x : Grown). inr x.items) done
 
     pub done_ready : (tally : ℕ) → tally ≡ w'.tally + 1 → Ready h o (record w' { calls = w'.calls + 1; tally = tally }) s'
     done_ready tally is = ⊎_elim

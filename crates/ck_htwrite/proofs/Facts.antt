@@ -1,5 +1,5 @@
 -- What the law of the table says of the writer's token.
-use Rattle.std.proofs.Common.{◌≡◌, ◌≢◌, ℕ, zero, suc, ⊎_elim, ◌+◌, ◌*◌, ◌<◌, ◌≤◌, List, [], ◌++◌, length, append-nil, refl, sym, ap, ◌∙◌, subst, arith}
+use Rattle.std.proofs.Common.{◌≡◌, ◌≢◌, ℕ, zero, suc, ⊎_elim, ◌+◌, ◌*◌, ◌/◌, ◌%◌, ◌^◌, ◌<◌, ◌≤◌, List, [], ◌++◌, length, append-nil, refl, sym, ap, ◌∙◌, subst, arith}
 use Rattle.std.specs.Prelude.{Some, None}
 use Rattle.std.specs.Ordering.{nat_cmp}
 use Rattle.ck_run.specs.Run.{Run, account}
@@ -26,7 +26,7 @@ use Rattle.ck_htlaw.specs.Regions.{regions}
 use Rattle.ck_htlaw.specs.Calls.{Opening}
 use Rattle.ck_htlaw.specs.Stages.{idle, after_rebuild, Stage, IsMap}
 use Rattle.ck_htlaw.specs.Table.{Layout, WriterState, writer, view}
-use Rattle.ck_htlaw.specs.Actions.{most, answer_to, plan_now, slots_now, tombstones_now}
+use Rattle.ck_htlaw.specs.Actions.{most, answer_to, keys_now, plan_now, slots_now, tombstones_now}
 use Rattle.ck_htlaw.specs.Invariant.{WriterInvariant, owed}
 use Rattle.ck_htlaw.specs.Client.{Answers, answers_after, table}
 use Rattle.ck_htlaw.specs.Linearized.{map_after, under_way}
@@ -36,11 +36,12 @@ use Rattle.ck_htlaw.proofs.Always.{always_at}
 use Rattle.ck_htlaw.proofs.Linked.{retires_regions}
 use Rattle.ck_htlaw.proofs.Logging.{HasLog, has_log}
 use Rattle.ck_htlaw.proofs.LogSteps.{Logged}
-use Rattle.ck_htlaw.proofs.Lives.{opt}
+use Rattle.ck_htlaw.proofs.Lives.{opt, live_keys}
 use Rattle.ck_htlaw.proofs.Effects.{answer_right}
 use Rattle.ck_htlaw.proofs.Soundness.{plan_right, plan_says, now}
 use Rattle.ck_htlaw.proofs.Planning.{missing}
 use Rattle.ck_htlaw.proofs.RebuildSteps.{map_rest}
+use Rattle.ck_htwrite.specs.Entries.{HasKeys, HoldsMap, key_in}
 use Rattle.ck_htwrite.specs.Writes.{WriterIs}
 
 -- where none is counted none is
@@ -134,6 +135,30 @@ module _ {D : Type 0} (h : Host D) (within : IsWithin table h.client h.place h.p
 
     map_idle : IsMap (l.order p.root) seen p.maps p.linearized idle
     map_idle = subst (λ (g : Stage). IsMap (l.order p.root) seen p.maps p.linearized g) idles holds.map
+
+    calm : under_way p.stage (knows h (origin t) t).due ≡ []
+    calm = ap (λ (g : Stage). under_way g (knows h (origin t) t).due) idles
+
+    -- the map after the log has its pairs by ascending key, and as many as slots are full
+    pub sorted_now : Sorted nat_cmp (map_after (knows h (origin t) t).log)
+    sorted_now = subst (λ (us : List (LogEntry ℕ)). Sorted nat_cmp (map_after us)) (logs.is ∙ (ap (λ (x : List (LogEntry ℕ)). (knows h (origin t) t).log ++ x) calm ∙ append-nil (knows h (origin t) t).log)) logs.sorted
+
+    pub as_many : keys_now l p ≡ length (map_after (knows h (origin t) t).log)
+    as_many = ap (λ (v : SlotsView). how_many v.state 1 (l.order p.root).slots) is_now ∙ live_keys (l.order p.root) holds.region.ok seen p.maps p.linearized map_idle (map_after (knows h (origin t) t).log) sorted_now (pairs_now calm)
+
+    -- the full slots hold the pairs of the map after the log
+    pub holds_map : HasKeys (map_after (knows h (origin t) t).log) → HoldsMap (slots_now l p) (l.order p.root).slots (map_after (knows h (origin t) t).log)
+    holds_map keys = subst (λ (v : SlotsView). HoldsMap v (l.order p.root).slots (map_after (knows h (origin t) t).log)) (sym is_now) record {
+      sorted = sorted_now;
+      keys = keys;
+      full = λ s low is. let k = map_idle.keyed s low is in
+          ap (find nat_cmp (map_after (knows h (origin t) t).log)) (number_is k.0 s k.1.is_low k.1.is_high)
+          ∙ (sym (pairs_now calm k.0) ∙ ap opt (⊎_elim (λ (z : ⊥). absurd z) (λ (z : p.maps p.linearized k.0 ≡ suc (seen.value s)). z) (map_idle.present k.0 s k.1)));
+      none = λ k not. sym (pairs_now calm k) ∙ ap opt (missing (l.order p.root) seen p.maps p.linearized map_idle k 0 (λ s x. not s x.inside x.full (number_is k s x.is_low x.is_high)));
+    }
+      where
+        number_is : (k s : ℕ) → seen.low s ≡ k % 2 ^ 64 → seen.high s ≡ k / 2 ^ 64 → key_in seen s ≡ k
+        number_is k s low high = omega arith
 
     -- no two full slots have the same key
     pub keys_once : (a b : ℕ) → a < (l.order p.root).slots → b < (l.order p.root).slots → (slots_now l p).state a ≡ 1 → (slots_now l p).state b ≡ 1 → (slots_now l p).low a ≡ (slots_now l p).low b → (slots_now l p).high a ≡ (slots_now l p).high b → a ≡ b

@@ -12,7 +12,7 @@ use Rattle.ck_htlaw.specs.Table.{Layout}
 use Rattle.ck_htlaw.specs.Client.{orders_of}
 use Rattle.ck_htwrite.specs.declared.state.HtState.{HtState}
 use Rattle.ck_htwrite.specs.State.{Mirrors, counter_at, next_count}
-use Rattle.ck_htwrite.specs.Updates.{bumped_lists, valued_lists, keyed_lists, buried_lists, keyed}
+use Rattle.ck_htwrite.specs.Updates.{bumped_lists, valued_lists, keyed_lists, buried_lists, keyed_words}
 use Rattle.ck_htwrite.proofs.Slots.{one_more, one_less, as_many, same_states, counter_low, counter_here}
 use Rattle.ck_htwrite.proofs.Shapes.{shaped_word, shaped_bump, shaped_keyed}
 
@@ -146,7 +146,7 @@ module _ (floor base : ℕ) (client : HtClient) where
         ws3 = set ws2 (l.word s.root at 2) (high_of key)
 
         abbrev ws4 : List ℕ
-        ws4 = keyed l s.root at key ws1
+        ws4 = keyed_words l s.root at key ws1
 
         long1 : length items1 ≡ 4 * slots
         long1 = length-set items (4 * at + 3) value ∙ long

@@ -11,7 +11,7 @@ use Rattle.ck_slots.proofs.Counts.{count_mono, one_empty}
 use Rattle.ck_htplan.specs.declared.cases.Plan.TheVariants.{Empty}
 use Rattle.ck_htplan.specs.Planning.{plan_of}
 use Rattle.ck_htplan.proofs.Walking.{plan_is}
-use Rattle.ck_htlaw.specs.Actions.{next_full}
+use Rattle.ck_htplan.specs.Deciding.{next_full}
 
 -- the plan of a key that no slot holds, where there is no tombstone
 pub plan_empty : (o : Order) → IsOrder o → (v : SlotsView) (k at : ℕ) → IsFirst o k (HasState v 0) at → ((t : ℕ) → Holds o v k t → ⊥) → ((t : ℕ) → t < o.slots → v.state t ≢ 2) → plan_of o v k ≡ Empty at

@@ -11,14 +11,14 @@ use Rattle.ck_htlaw.specs.declared.client.HtClient.{HtClient}
 use Rattle.ck_htlaw.specs.Calls.{opening_of}
 use Rattle.ck_htlaw.specs.Stages.{Insertion, Target, empty, reuse, move, Stage, idle, after_rebuild, with_bump, with_value, with_low, with_high, before_tombstone, with_tombstone}
 use Rattle.ck_htlaw.specs.Layout.{log_of, counters_of, layout}
-use Rattle.ck_htlaw.specs.Table.{Layout, WriterState, Action, inserts, stands, deletes, nothing, is_table_word, filled, first, second, MayDo, MayWriterStep, GoesOn, count, linearizing, repeated}
+use Rattle.ck_htlaw.specs.Table.{Layout, WriterState, Action, inserts, stands, deletes, nothing, is_table_word, filled, after_first, second, MayDo, MayWriterStep, GoesOn, count, linearizing, repeated}
 use Rattle.ck_htlaw.specs.Actions.{action, answer_to}
 use Rattle.ck_htlaw.specs.Invariant.{IsTaking, BeginsRebuild}
 use Rattle.ck_htlaw.specs.Client.{Answers, answers_next, due_at, orders_of}
 use Rattle.ck_htlaw.proofs.Tokens.{is_inside}
 use Rattle.ck_htwrite.specs.declared.state.HtState.{HtState}
 use Rattle.ck_htwrite.specs.State.{Mirrors, Reflects, next_count}
-use Rattle.ck_htwrite.specs.Updates.{key_steps, keyed, insert_steps, reuse_steps, move_steps, remove_steps, bumped_lists, valued_lists, keyed_lists, buried_lists, inserted_lists, reused_lists, moved_lists, removed_lists, MayBegin, settled, IsOver}
+use Rattle.ck_htwrite.specs.Updates.{key_steps, keyed_words, insert_steps, reuse_steps, move_steps, remove_steps, bumped_lists, valued_lists, keyed_lists, buried_lists, inserted_lists, reused_lists, moved_lists, removed_lists, MayBegin, settled_answer, IsOver}
 use Rattle.ck_htwrite.specs.Writes.{WriterAt, CanMake, IsPlainStep, opened, writer_after}
 use Rattle.ck_htwrite.proofs.Slots.{word_in, counter_low}
 use Rattle.ck_htwrite.proofs.Shapes.{bumped_again}
@@ -44,14 +44,14 @@ module _ (l : Layout) (p : WriterState) (opens : List ℕ) (begins : MayBegin p.
     takes_none = subst (λ (z : Action). (root : ℕ) → IsTaking z p.stage root → ⊥) (sym does) (begin_at opens (λ (g : Stage). (root : ℕ) → IsTaking a g root → ⊥) p.stage begins none (λ c o. none));
   }
 
-  pub next_first : (q : WriterState) → ((c : List ℕ) → first l c (record p { stage = idle }) a ≡ q) → writer_after l p e ≡ record q { words = words_after p.words s }
+  pub next_first : (q : WriterState) → ((c : List ℕ) → after_first l c (record p { stage = idle }) a ≡ q) → writer_after l p e ≡ record q { words = words_after p.words s }
   next_first q is = begin_at opens (λ (g : Stage). p.stage ≡ g → writer_after l p e ≡ record q { words = words_after p.words s }) p.stage begins
       (λ at. (λ i. record (second l opens (record p { stage = at i }) (does i) (at i)) { words = words_after p.words s }) ∙ ap (λ (x : WriterState). record x { words = words_after p.words s }) (is opens))
       (λ c o at. (λ i. record (second l opens p (does i) (at i)) { words = words_after p.words s }) ∙ ap (λ (x : WriterState). record x { words = words_after p.words s }) (is c))
       refl
 
-  pub due_first : (d : LogEntry ℕ) → is_table_word l s ≡ true → due_at l p p.stage e d ≡ settled l p p.stage opens d
-  due_first d own = begin_at opens (λ (g : Stage). due_at l p g e d ≡ settled l p g opens d) p.stage begins (ap (λ (b : Bool). cond b (answer_to l p (opening_of opens)) d) own) (λ c o. refl)
+  pub due_first : (d : LogEntry ℕ) → is_table_word l s ≡ true → due_at l p p.stage e d ≡ settled_answer l p p.stage opens d
+  due_first d own = begin_at opens (λ (g : Stage). due_at l p g e d ≡ settled_answer l p g opens d) p.stage begins (ap (λ (b : Bool). cond b (answer_to l p (opening_of opens)) d) own) (λ c o. refl)
 
 -- the stores of a key
 module _ (l : Layout) (p : WriterState) (c : Target) (w : Insertion) (root at key : ℕ) (is_root : p.root ≡ root) (is_key : w.key ≡ key) (is_at : w.to ≡ at) (own : (j v : ℕ) → j < 4 → is_table_word l (Store (l.word root at j) v) ≡ true) where
@@ -103,7 +103,7 @@ module _ (floor base : ℕ) (client : HtClient) where
     slots = 2 ^ log_of s.root
 
     abbrev answer : LogEntry ℕ → LogEntry ℕ
-    answer d = settled l p p.stage opens d
+    answer d = settled_answer l p p.stage opens d
 
     -- a word of a slot, and a counter, are the table's
     own_word : (at : ℕ) → at < slots → (j v : ℕ) → j < 4 → is_table_word l (Store (l.word s.root at j) v) ≡ true
@@ -150,7 +150,7 @@ module _ (floor base : ℕ) (client : HtClient) where
           let at1 = goes_on l a p (record q { stage = with_value empty w }) d (answer d) told e0 at0 own3 next0 (due_first l p opens begins (inserts empty w) (Store (l.word s.root at 3) value) (does _) d own3) refl in
           let k3' : Entry = k3 l q empty w s.root at key h.root refl refl (own_word at few) in
           let q2 : WriterState = p2 l q empty w s.root at key h.root refl refl (own_word at few) in
-          let q3 : WriterState = record (filled q empty w) { words = keyed l s.root at key q.words } in
+          let q3 : WriterState = record (filled q empty w) { words = keyed_words l s.root at key q.words } in
           let at3 = at_key l q empty w s.root at key h.root refl refl (own_word at few) (answers_next l a e0) (answer d) told at1 in
           record {
             is_writer = q3;
@@ -179,7 +179,7 @@ module _ (floor base : ℕ) (client : HtClient) where
       valued_state = record p { words = set (set p.words (l.counter s.root) (next_count n s)) (l.word s.root at 3) value; bumps = suc p.bumps }
 
       module _ (does : (x : Step) → action l p (entry opens x) ≡ inserts c v) (may : MayDo l p (inserts c v) r0.step)
-          (goes_first : (k : List ℕ) → first l k (record p { stage = idle }) (inserts c v) ≡ record p { stage = with_bump c v; bumps = suc p.bumps }) where
+          (goes_first : (k : List ℕ) → after_first l k (record p { stage = idle }) (inserts c v) ≡ record p { stage = with_bump c v; bumps = suc p.bumps }) where
         next_bump : writer_after l p r0 ≡ bumped_state
         next_bump = next_first l p opens begins (inserts c v) r0.step (does _) (record p { stage = with_bump c v; bumps = suc p.bumps }) goes_first
 
@@ -218,7 +218,7 @@ module _ (floor base : ℕ) (client : HtClient) where
           (can_key l rq reuse rw s.root at key h.root refl refl (own_word at few) (λ x y e. refl) (λ x y e. refl) [] tt)
 
       module _ (was : (view_of s.words.items).state at ≡ 2) where
-        reused : (0 < s.tombstones) × Mirrors n l (keyed l s.root at key (set ws1 (l.word s.root at 3) value)) (reused_lists n s at key value)
+        reused : (0 < s.tombstones) × Mirrors n l (keyed_words l s.root at key (set ws1 (l.word s.root at 3) value)) (reused_lists n s at key value)
         reused = mirrors_reused floor base client ws1 s1 m1 at few key value was
 
         pub some_tombstone : 0 < s.tombstones
@@ -229,7 +229,7 @@ module _ (floor base : ℕ) (client : HtClient) where
         reuse_over a d told at0 =
             let at2 = at_bump reuse key value at few does (counter_now, count_now) (λ k. refl) a d told at0 in
             let q2 : WriterState = p2 l rq reuse rw s.root at key h.root refl refl (own_word at few) in
-            let q3 : WriterState = record (filled rq reuse rw) { words = keyed l s.root at key rq.words } in
+            let q3 : WriterState = record (filled rq reuse rw) { words = keyed_words l s.root at key rq.words } in
             let at3 = at_key l rq reuse rw s.root at key h.root refl refl (own_word at few) _ (answer d) told at2 in
             record {
               is_writer = q3;
@@ -301,7 +301,7 @@ module _ (floor base : ℕ) (client : HtClient) where
 
       -- after the slot is full
       abbrev twice_state : WriterState
-      twice_state = record (filled mq (move from) mw) { words = keyed l s.root to key mq.words }
+      twice_state = record (filled mq (move from) mw) { words = keyed_words l s.root to key mq.words }
 
       abbrev twice_lists : HtState
       twice_lists = keyed_lists (valued_lists s1 to value) to key

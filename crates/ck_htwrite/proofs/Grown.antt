@@ -29,21 +29,64 @@ use Rattle.ck_htlaw.specs.Linearized.{map_after}
 use Rattle.ck_htlaw.specs.Known.{knows}
 use Rattle.ck_htwrite.specs.declared.state.HtState.{HtState}
 use Rattle.ck_htwrite.specs.declared.state.Need.{Need}
-use Rattle.ck_htwrite.specs.Arena.{AddsRegion, HasNoneFree, IsKept, unreturned}
-use Rattle.ck_htwrite.specs.Rebuild.{Rebuilt, rebuild_entries}
+use Rattle.ck_arena.specs.Arena.{HasNoneFree, unreturned}
+use Rattle.ck_htwrite.specs.Arena.{AddsRegion, IsKept}
+use Rattle.ck_htwrite.specs.Rebuild.{BeginsRebuildAt, Rebuilt, rebuild_entries}
 use Rattle.ck_htwrite.specs.State.{IsReady}
-use Rattle.ck_htwrite.specs.Updates.{AddsFresh, IsGrown, IsNeeded, IsOver, MayBegin, insert_steps, inserted_lists, needed_log, settled}
+use Rattle.ck_htwrite.specs.Updates.{AddsFresh, IsGrown, IsNeeded, IsOver, MayBegin, insert_steps, inserted_lists, needed_log, settled_answer}
 use Rattle.ck_htwrite.specs.Writes.{MayMake, Steps, counters_in}
 use Rattle.ck_htwrite.proofs.Agree.{tombstones_are}
 use Rattle.ck_htwrite.proofs.Between.{next_plan, not_found}
 use Rattle.ck_htwrite.proofs.Finishing.{can_insert, insert_over}
-use Rattle.ck_htwrite.proofs.Growing.{IsGrownLog, goes_in_after, log_now, not_roomy}
+use Rattle.ck_htwrite.proofs.Growing.{IsGrownLog, begins_rebuilding, goes_in_after, grown_log, keys_below, log_now, not_roomy}
 use Rattle.ck_htwrite.proofs.Plans.{room}
 
-module _ {D F : Type 0} (h : Host D) (within : IsWithin table h.client h.place h.part) (o : Origin D) (w w1 : Writer D F) (same : origin w.token ≡ o) (part : IsDomainToken h.client w.token) (zero : number w.token ≡ 0) (s s1 : HtState) (r : IsReady h o w.token s)
-    (opens : List ℕ) (key value old_at : ℕ) (planned : plan_now (lies h o) r.is_writer key ≡ Empty old_at) (adds : AddsFresh opens key value) (few : s.keys < 262144) (log : ℕ) (grown : IsGrownLog (log_of s.root) s.keys log)
-    (es : List Entry) (made : w1 ≡ record w { token = adding w.token es; calls = w.calls + 1 }) (is_token : IsDomainToken h.client w1.token) (lists : (s1.keys ≡ s.keys) × (s1.tombstones ≡ 0) × (log_of s1.root ≡ log))
-    (b : Rebuilt (counters_in h o) (lies h o) (knows h o w1.token) (after_rebuild opens) (answer_to (lies h o) r.is_writer (opening_of opens)) (knows h o w.token).log s1) where
+module _ {D : Type 0} (h : Host D) (o : Origin D) {t : Token D} (s : HtState) (r : IsReady h o t s) where
+  -- a region of the length that is taken has room for the pairs and one more
+  pub grown_fits : s.keys < 262144 → (log : ℕ) → log ≡ rebuilt_log (log_of s.root) s.keys → IsGrownLog (log_of s.root) s.keys log
+  grown_fits few log is =
+      let shape = r.reflects.mirrors.shape in
+      subst (IsGrownLog (log_of s.root) s.keys) (sym is) (grown_log (log_of s.root) s.keys shape.is_root.piece.some_lines shape.is_root.few few (keys_below (base_of (inner h o)) (first h o) (inner h o).config.client r.is_writer s r.reflects))
+
+  -- and the call's first step begins a rebuild into it
+  pub begins_growing : (opens : List ℕ) (key value at : ℕ) → AddsFresh opens key value → plan_now (lies h o) r.is_writer key ≡ Empty at → s.keys < 262144 → 3 * 2 ^ log_of s.root < 4 * (s.keys + s.tombstones + 1) → (log : ℕ) → log ≡ rebuilt_log (log_of s.root) s.keys → (root : ℕ) → log_of root ≡ log → BeginsRebuildAt (lies h o) r.is_writer opens root
+  begins_growing opens key value at adds planned few full log log_is root is = begins_rebuilding (base_of (inner h o)) (first h o) (inner h o).config.client r.is_writer s r.reflects opens key value at adds planned r.idles few full root (is ∙ log_is)
+
+  -- where no piece is free
+  pub needed_whole : (key old_at : ℕ) → plan_now (lies h o) r.is_writer key ≡ Empty old_at → (log : ℕ) → log ≡ rebuilt_log (log_of s.root) s.keys → s.keys < 262144 → 3 * 2 ^ log_of s.root < 4 * (s.keys + s.tombstones + 1) → (need : Need) → need ≡ record { shelf = 0; log = log + 2 } → HasNoneFree s.arena (log + 2)
+      → IsNeeded h o r.is_writer (Empty old_at) s need
+  needed_whole key old_at planned log log_is few full need is none =
+      let floor = base_of (inner h o) in let client = (inner h o).config.client in
+      record {
+        due = record { slot = old_at; fresh = refl; room = room floor (first h o) client r.is_writer s r.reflects few; full = not_roomy floor (first h o) client r.is_writer s r.reflects full };
+        shelf = ap (λ (x : Need). x.shelf) is;
+        log = ap (λ (x : Need). x.log) is ∙ ap (λ (k : ℕ). k + 2) (log_is ∙ log_now floor (first h o) client r.is_writer s r.reflects);
+        none = subst (HasNoneFree s.arena) (sym (ap (λ (x : Need). x.log) is)) none;
+      }
+
+-- The call rebuilt the map, and has its fresh key yet to put in
+pub record IsRegrown {D F : Type 0} (h : Host D) (o : Origin D) (w w1 : Writer D F) (s s1 : HtState) (r : IsReady h o w.token s) (opens : List ℕ) (key value old_at : ℕ) : Type 0 where
+  pub same : origin w.token ≡ o
+  pub part : IsDomainToken h.client w.token
+  pub zero : number w.token ≡ 0
+  pub planned : plan_now (lies h o) r.is_writer key ≡ Empty old_at
+  pub adds : AddsFresh opens key value
+  pub few : s.keys < 262144
+  pub full : 3 * 2 ^ log_of s.root < 4 * (s.keys + s.tombstones + 1)
+  pub log : ℕ
+  pub log_is : log ≡ rebuilt_log (log_of s.root) s.keys
+  pub stores : List Step
+  pub epoch : ℕ
+  pub made : w1 ≡ record w { token = adding w.token (rebuild_entries (lies h o) opens s.root s1.root stores epoch); calls = w.calls + 1 }
+  pub is_token : IsDomainToken h.client w1.token
+  pub lists : (s1.keys ≡ s.keys) × (s1.tombstones ≡ 0) × (log_of s1.root ≡ log)
+  pub free : HasNoneFree s.arena (log + 2) → ⊥
+  pub retired : length (state w1.token).pending ≡ length (state w.token).pending + 1
+  pub items : AddsRegion (counters_in h o) (h.place o.config.client) (unreturned (state w.token) w.waiting) (unreturned (state w1.token) w1.waiting)
+  pub arena : IsKept (counters_in h o) (h.place o.config.client) s1.root (unreturned (state w1.token) w1.waiting) s1.arena
+  pub rebuilt : Rebuilt (counters_in h o) (lies h o) (knows h o w1.token) (after_rebuild opens) (answer_to (lies h o) r.is_writer (opening_of opens)) (knows h o w.token).log s1
+
+module _ {D F : Type 0} (h : Host D) (within : IsWithin table h.client h.place h.part) (o : Origin D) (w w1 : Writer D F) (s s1 : HtState) (r : IsReady h o w.token s) (opens : List ℕ) (key value old_at : ℕ) (x : IsRegrown h o w w1 s s1 r opens key value old_at) where
   abbrev l : Layout
   l = lies h o
 
@@ -53,8 +96,14 @@ module _ {D F : Type 0} (h : Host D) (within : IsWithin table h.client h.place h
   abbrev p : WriterState
   p = r.is_writer
 
+  abbrev b : Rebuilt n l (knows h o w1.token) (after_rebuild opens) (answer_to l p (opening_of opens)) (knows h o w.token).log s1
+  b = x.rebuilt
+
   abbrev q : WriterState
   q = b.is_writer
+
+  abbrev es : List Entry
+  es = rebuild_entries l opens s.root s1.root x.stores x.epoch
 
   abbrev floor : ℕ
   floor = base_of (inner h o)
@@ -64,16 +113,16 @@ module _ {D F : Type 0} (h : Host D) (within : IsWithin table h.client h.place h
 
   -- the key's plan in the new region
   pub plan_then : (at : ℕ) × (plan_now l q key ≡ Empty at)
-  plan_then = next_plan h within o w1.token (ap (λ (v : Writer D F). origin v.token) made ∙ same) is_token (ap (λ (v : Writer D F). number v.token) made ∙ zero) q b.at.local opens b.stage_is key
-      (subst (λ (us : List (LogEntry ℕ)). find nat_cmp (map_after us) key ≡ None) (sym b.at.log) (not_found h within o w.token same part zero s r key old_at planned))
-      (sym (tombstones_are floor (first h o) n client q s1 b.lists) ∙ lists.1)
+  plan_then = next_plan h within o w1.token (ap (λ (v : Writer D F). origin v.token) x.made ∙ x.same) x.is_token (ap (λ (v : Writer D F). number v.token) x.made ∙ x.zero) q b.at.local opens b.stage_is key
+      (subst (λ (us : List (LogEntry ℕ)). find nat_cmp (map_after us) key ≡ None) (sym b.at.log) (not_found h within o w.token x.same x.part x.zero s r key old_at x.planned))
+      (sym (tombstones_are floor (first h o) n client q s1 b.lists) ∙ x.lists.1)
 
   module _ (at : ℕ) (here : plan_now l q key ≡ Empty at) (low : at < 2 ^ log_of s1.root) where
     abbrev pair : Insertion
     pair = record { key = key; number = value; to = at }
 
     does : (x : Step) → action l q (entry [] x) ≡ inserts empty pair
-    does = goes_in_after floor (first h o) client q s1 b.lists opens key value at adds here b.stage_is (let e = lists.0 in omega arith) lists.1 (let e = lists.0 in let y = grown.roomy in subst (λ (k : ℕ). 4 * (s1.keys + 1) ≤ 3 * 2 ^ k) (sym lists.2) (omega arith))
+    does = goes_in_after floor (first h o) client q s1 b.lists opens key value at x.adds here b.stage_is (let e = x.lists.0 in let few = x.few in omega arith) x.lists.1 (let e = x.lists.0 in let y = (grown_fits h o s r x.few x.log x.log_is).roomy in subst (λ (k : ℕ). 4 * (s1.keys + 1) ≤ 3 * 2 ^ k) (sym x.lists.2) (omega arith))
 
     begins : MayBegin q.stage []
     begins = subst (λ (g : Stage). MayBegin g []) (sym b.stage_is) refl
@@ -88,45 +137,30 @@ module _ {D F : Type 0} (h : Host D) (within : IsWithin table h.client h.place h
       over : IsOver n l (knows h o w2.token) answer (knows h o w.token).log s2
       over = subst (λ (x : Answers). IsOver n l x answer (knows h o w.token).log s2) (sym steps.knows_now)
           (subst (λ (x : HtState). IsOver n l (state_after (answers_next l) (knows h o w1.token) (map further (insert_steps l s1.root at key value))) answer (knows h o w.token).log x) (sym is)
-          (subst (λ (x : LogEntry ℕ). IsOver n l (state_after (answers_next l) (knows h o w1.token) (map further (insert_steps l s1.root at key value))) x (knows h o w.token).log (inserted_lists s1 at key value)) (ap (λ (g : Stage). settled l q g [] answer) b.stage_is)
+          (subst (λ (x : LogEntry ℕ). IsOver n l (state_after (answers_next l) (knows h o w1.token) (map further (insert_steps l s1.root at key value))) x (knows h o w.token).log (inserted_lists s1 at key value)) (ap (λ (g : Stage). settled_answer l q g [] answer) b.stage_is)
           (insert_over floor (first h o) client q s1 b.lists [] begins key value at low does (knows h o w1.token) answer (knows h o w.token).log b.at was)))
 
-      pub grown_whole : (stores : List Step) (epoch : ℕ) → es ≡ rebuild_entries l opens s.root s1.root stores epoch → 3 * 2 ^ log_of s.root < 4 * (s.keys + s.tombstones + 1) → log ≡ rebuilt_log (log_of s.root) s.keys → (HasNoneFree s.arena (log + 2) → ⊥)
-          → length (state w1.token).pending ≡ length (state w.token).pending + 1 → AddsRegion n (h.place o.config.client) (unreturned (state w.token) w.waiting) (unreturned (state w1.token) w1.waiting) → IsKept n (h.place o.config.client) s1.root (unreturned (state w1.token) w1.waiting) s1.arena
-          → IsGrown h o p (added l p) (Empty old_at) opens key value w Fresh w2 s s2
-      grown_whole stores epoch are full log_is free retired added kept =
-          let fits = room floor (first h o) client p s r.reflects few in
-          let needed : log + 2 ≡ needed_log l p = ap (λ (k : ℕ). k + 2) (log_is ∙ log_now floor (first h o) client p s r.reflects) in
+      pub grown_whole : IsGrown h o p (added l p) (Empty old_at) opens key value w Fresh w2 s s2
+      grown_whole =
+          let fits = room floor (first h o) client p s r.reflects x.few in
+          let needed : x.log + 2 ≡ needed_log l p = ap (λ (k : ℕ). k + 2) (x.log_is ∙ log_now floor (first h o) client p s r.reflects) in
           record {
-            reply_is = sym (ap (λ (x : Bool). cond x Fresh Full) fits);
-            due = record { slot = old_at; fresh = refl; room = fits; full = not_roomy floor (first h o) client p s r.reflects full };
-            free = λ none. free (subst (HasNoneFree s.arena) (sym needed) none);
+            reply_is = sym (ap (λ (b : Bool). cond b Fresh Full) fits);
+            due = record { slot = old_at; fresh = refl; room = fits; full = not_roomy floor (first h o) client p s r.reflects x.full };
+            free = λ none. x.free (subst (HasNoneFree s.arena) (sym needed) none);
             entries = es ++ map further (insert_steps l s1.root at key value);
             are = record {
               root = s1.root;
               at = at;
-              epoch = epoch;
-              stores = stores;
-              are = ap (λ (xs : List Entry). xs ++ map further (insert_steps l s1.root at key value)) (are ∙ ap (λ (x : ℕ). rebuild_entries l opens x s1.root stores epoch) (sym r.reflects.root));
+              epoch = x.epoch;
+              stores = x.stores;
+              are = ap (λ (root : ℕ). rebuild_entries l opens root s1.root x.stores x.epoch ++ map further (insert_steps l s1.root at key value)) (sym r.reflects.root);
             };
-            made = steps.made ∙ (ap (λ (v : Writer D F). record v { token = adding v.token (map further (insert_steps l s1.root at key value)) }) made ∙ ap (λ (t : Token D). record w { token = t; calls = w.calls + 1 }) (adding-append w.token es (map further (insert_steps l s1.root at key value))));
+            made = steps.made ∙ (ap (λ (v : Writer D F). record v { token = adding v.token (map further (insert_steps l s1.root at key value)) }) x.made ∙ ap (λ (t : Token D). record w { token = t; calls = w.calls + 1 }) (adding-append w.token es (map further (insert_steps l s1.root at key value))));
             is_token = steps.is_token;
-            retired = ap (λ (xs : List Retirement). length xs) steps.same.0 ∙ retired;
-            items = (added.0, added.1, ap (λ (v : Writer D F). unreturned (state w2.token) v.waiting) steps.made ∙ (λ i. unreturned (record (state w2.token) { pending = steps.same.0 i; dispatched = steps.same.1 i }) w1.waiting) ∙ added.2);
+            retired = ap (λ (xs : List Retirement). length xs) steps.same.0 ∙ x.retired;
+            items = (x.items.0, x.items.1, ap (λ (v : Writer D F). unreturned (state w2.token) v.waiting) steps.made ∙ (λ i. unreturned (record (state w2.token) { pending = steps.same.0 i; dispatched = steps.same.1 i }) w1.waiting) ∙ x.items.2);
             over = over;
-            arena = subst (λ (x : HtState). IsKept n (h.place o.config.client) x.root (unreturned (state w2.token) w2.waiting) x.arena) (sym is)
-                (subst (λ ks. IsKept n (h.place o.config.client) s1.root ks s1.arena) (λ i. unreturned (record (state w2.token) { pending = sym steps.same.0 i; dispatched = sym steps.same.1 i }) (sym (ap (λ (v : Writer D F). v.waiting) steps.made) i)) kept);
+            arena = subst (λ (y : HtState). IsKept n (h.place o.config.client) y.root (unreturned (state w2.token) w2.waiting) y.arena) (sym is)
+                (subst (λ ks. IsKept n (h.place o.config.client) s1.root ks s1.arena) (λ i. unreturned (record (state w2.token) { pending = sym steps.same.0 i; dispatched = sym steps.same.1 i }) (sym (ap (λ (v : Writer D F). v.waiting) steps.made) i)) x.arena);
           }
-
--- where no piece is free
-module _ {D : Type 0} (h : Host D) (o : Origin D) {t : Token D} (s : HtState) (r : IsReady h o t s) where
-  pub needed_whole : (key old_at : ℕ) → plan_now (lies h o) r.is_writer key ≡ Empty old_at → (log : ℕ) → log ≡ rebuilt_log (log_of s.root) s.keys → s.keys < 262144 → 3 * 2 ^ log_of s.root < 4 * (s.keys + s.tombstones + 1) → (need : Need) → need ≡ record { shelf = 0; log = log + 2 } → HasNoneFree s.arena (log + 2)
-      → IsNeeded h o r.is_writer (Empty old_at) s need
-  needed_whole key old_at planned log log_is few full need is none =
-      let floor = base_of (inner h o) in let client = (inner h o).config.client in
-      record {
-        due = record { slot = old_at; fresh = refl; room = room floor (first h o) client r.is_writer s r.reflects few; full = not_roomy floor (first h o) client r.is_writer s r.reflects full };
-        shelf = ap (λ (x : Need). x.shelf) is;
-        log = ap (λ (x : Need). x.log) is ∙ ap (λ (k : ℕ). k + 2) (log_is ∙ log_now floor (first h o) client r.is_writer s r.reflects);
-        none = subst (HasNoneFree s.arena) (sym (ap (λ (x : Need). x.log) is)) none;
-      }

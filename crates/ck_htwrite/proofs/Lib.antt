@@ -2,6 +2,7 @@ pub mod Writing
 pub mod Making
 pub mod Slots
 pub mod Shapes
+pub mod Stores
 pub mod Fills
 pub mod Finishing
 pub mod Facts
@@ -9,6 +10,9 @@ pub mod Agree
 pub mod Plans
 pub mod Made
 pub mod Between
+pub mod Answering
+pub mod ByPlan
+pub mod Adding
 pub mod Openings
 pub mod Opened
 pub mod Taking
@@ -27,3 +31,4 @@ pub mod Tidies
 pub mod Growing
 pub mod Grown
 pub mod Giving
+pub mod Gathering

@@ -27,7 +27,7 @@ use Rattle.ck_htwrite.specs.declared.state.HtState.{HtState}
 use Rattle.ck_htwrite.specs.declared.state.Need.{Need}
 use Rattle.ck_htplan.specs.declared.cases.Plan.TheVariants.{Empty}
 use Rattle.ck_htwrite.specs.State.{IsReady, next_count}
-use Rattle.ck_htwrite.specs.Updates.{Asks, IsDone, IsGrown, IsNeeded, IsRoomy, InsertSteps, ReuseSteps, IsMade, IsOver, MayBegin, settled, bumped_count, insert_steps, reuse_steps, move_steps, remove_steps, inserted_lists, reused_lists, moved_lists, removed_lists, valued_lists}
+use Rattle.ck_htwrite.specs.Updates.{Asks, IsDone, IsGrown, IsNeeded, IsRoomy, InsertSteps, ReuseSteps, IsMade, IsOver, MayBegin, settled_answer, bumped_count, insert_steps, reuse_steps, move_steps, remove_steps, inserted_lists, reused_lists, moved_lists, removed_lists, valued_lists}
 use Rattle.ck_htwrite.specs.Writes.{MayMake, MayStep, Steps, WriterAt, counters_in, opened}
 use Rattle.ck_htwrite.proofs.Making.{may_first}
 use Rattle.ck_htwrite.proofs.Agree.{value_same}
@@ -64,10 +64,10 @@ module _ {D F : Type 0} (h : Host D) (o : Origin D) (w w' : Writer D F) (s s' : 
   begins : MayBegin p.stage opens
   begins = subst (λ (g : Stage). MayBegin g opens) (sym r.idles) tt
 
-  over_from : (es : List Entry) (s1 : HtState) → Steps h o w es w' → s' ≡ s1 → IsOver n l (state_after (answers_next l) a es) (settled l p p.stage opens a.due) a.log s1 → IsOver n l (knows h o w'.token) (answer_to l p (opening_of opens)) a.log s'
+  over_from : (es : List Entry) (s1 : HtState) → Steps h o w es w' → s' ≡ s1 → IsOver n l (state_after (answers_next l) a es) (settled_answer l p p.stage opens a.due) a.log s1 → IsOver n l (knows h o w'.token) (answer_to l p (opening_of opens)) a.log s'
   over_from es s1 steps is over = subst (λ (x : Answers). IsOver n l x (answer_to l p (opening_of opens)) a.log s') (sym steps.knows_now)
       (subst (λ (x : HtState). IsOver n l (state_after (answers_next l) a es) (answer_to l p (opening_of opens)) a.log x) (sym is)
-      (subst (λ (x : LogEntry ℕ). IsOver n l (state_after (answers_next l) a es) x a.log s1) (ap (λ (g : Stage). settled l p g opens a.due) r.idles) over))
+      (subst (λ (x : LogEntry ℕ). IsOver n l (state_after (answers_next l) a es) x a.log s1) (ap (λ (g : Stage). settled_answer l p g opens a.due) r.idles) over))
 
   abbrev has_room : Bool
   has_room = nat_lt (keys_now l p) most

@@ -18,7 +18,8 @@ use Rattle.ck_htlaw.specs.Table.{Layout, WriterState}
 use Rattle.ck_htlaw.specs.Client.{first_writer, table}
 use Rattle.ck_htlaw.specs.Known.{knows}
 use Rattle.ck_htwrite.specs.declared.state.HtState.{HtState}
-use Rattle.ck_htwrite.specs.Arena.{IsKept, unreturned}
+use Rattle.ck_arena.specs.Arena.{unreturned}
+use Rattle.ck_htwrite.specs.Arena.{IsKept}
 use Rattle.ck_htwrite.specs.State.{IsShaped, Reflects, Ready}
 use Rattle.ck_htwrite.specs.Writes.{counters_in}
 

@@ -1,15 +1,15 @@
 -- The lists at opening.
-use Rattle.std.proofs.Common.{◌≡◌, ◌≢◌, ℕ, ◌+◌, ◌-◌, ◌*◌, ◌%◌, ◌^◌, ◌<◌, ◌≤◌, inl, [], length, ap, sym, ◌∙◌, subst, refl, arith, pow-add, mul_comm}
+use Rattle.std.proofs.Common.{◌≡◌, ℕ, ◌+◌, ◌-◌, ◌*◌, ◌%◌, ◌^◌, ◌<◌, ◌≤◌, inl, [], length, ap, sym, ◌∙◌, subst, refl, arith, pow-add, mul_comm}
 use Rattle.std.specs.Prelude.{max, vec_capacity}
 use Rattle.std.specs.FinSet as set
 use Rattle.std.proofs.lemmas.List.Elements.{All-nil}
 use Rattle.std.proofs.Math.Nat.{pow-le-pow_right}
 use Rattle.ck_words.specs.Buddies.{Arena, Piece, piece, piece_cmp, with_pieces_out, IsPieceOut}
-use Rattle.ck_epoch.specs.declared.item.Retired.{Retired}
 use Rattle.ck_htlaw.specs.Layout.{arena, arena_words, at_of, log_of, IsTableItem}
 use Rattle.ck_htlaw.specs.Known.{IsRoot}
 use Rattle.ck_htwrite.specs.declared.state.HtState.{HtState}
-use Rattle.ck_htwrite.specs.Arena.{region_piece, retired_piece, IsArenaOfTable, IsKept}
+use Rattle.ck_arena.specs.Arena.{IsOutBeside}
+use Rattle.ck_htwrite.specs.Arena.{region_piece, IsArenaOfTable, IsKept}
 use Rattle.ck_htwrite.specs.State.{IsShaped, most_words}
 
 module _ (n : ℕ) where
@@ -38,10 +38,12 @@ module _ (n : ℕ) where
   pub opening_kept : (place at : ℕ) (a : Arena) → IsArenaOfTable n a → at ≡ arena n → IsPieceOut a (piece at 5) → ((p : Piece) → IsPieceOut a p → p ≡ piece at 5) → IsKept n place (32 * at + 3) [] a
   opening_kept place at a of_table is out alone = subst (λ (k : ℕ). IsKept n place (32 * k + 3) [] a) (sym is) record {
     of_table = of_table;
-    present = subst (λ (p : ℕ × ℕ). IsPieceOut a (piece p.0 p.1)) (λ i. ((is ∙ sym at_is) i, sym (ap (λ (k : ℕ). k + 2) log_is) i)) out;
-    retired = All-nil (λ (k : Retired). IsTableItem n place k.item → IsPieceOut a (retired_piece place k) × (retired_piece place k ≢ region_piece opening_root));
-    once = tt;
-    only = λ p h. inl (alone p h ∙ (λ i. piece ((is ∙ sym at_is) i) (sym (ap (λ (k : ℕ). k + 2) log_is) i)));
+    pieces = record {
+      current = subst (λ (p : ℕ × ℕ). IsPieceOut a (piece p.0 p.1)) (λ i. ((is ∙ sym at_is) i, sym (ap (λ (k : ℕ). k + 2) log_is) i)) out;
+      retired = All-nil (IsOutBeside (IsTableItem n place) place a (region_piece opening_root));
+      once = tt;
+      only = λ p h. inl (alone p h ∙ (λ i. piece ((is ∙ sym at_is) i) (sym (ap (λ (k : ℕ). k + 2) log_is) i)));
+    };
   }
 
   pub opening_shape : (s : HtState) → 1 ≤ n → n ≤ 524288 → s.root ≡ opening_root → length s.words.items ≡ 32 → length s.counters.items ≡ n → most_words n ≤ vec_capacity s.words → most_words n ≤ vec_capacity s.spare → IsShaped n s

@@ -20,7 +20,8 @@ use Rattle.ck_htlaw.specs.Stages.{Insertion, empty, idle, copying, with_value, w
 use Rattle.ck_htlaw.specs.Calls.{opening_of}
 use Rattle.ck_htlaw.specs.Layout.{at_of, log_of, counters_of, layout}
 use Rattle.ck_htlaw.specs.Table.{Layout, WriterState, Action, copies, no_action, view, second, is_table_word, MayWriterStep}
-use Rattle.ck_htlaw.specs.Actions.{action, slots_now, job, to_copy, copies_to, with_another, next_full}
+use Rattle.ck_htlaw.specs.Actions.{action, slots_now, job, to_copy, copies_to, with_another}
+use Rattle.ck_htplan.specs.Deciding.{next_full}
 use Rattle.ck_htlaw.specs.Client.{Answers, answers_next, orders_of, hash_of}
 use Rattle.ck_htlaw.proofs.Tokens.{is_inside}
 use Rattle.ck_htwrite.specs.declared.state.HtState.{HtState}

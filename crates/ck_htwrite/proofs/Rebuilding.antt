@@ -15,12 +15,13 @@ use Rattle.ck_htlaw.specs.Known.{IsRoot}
 use Rattle.ck_htlaw.specs.Table.{Layout, WriterState}
 use Rattle.ck_htwrite.specs.declared.state.HtState.{HtState}
 use Rattle.ck_htlaw.proofs.Arena.{item_inside}
-use Rattle.ck_htwrite.specs.Arena.{region_piece, unreturned, AddsRegion, IsKept}
+use Rattle.ck_arena.specs.Arena.{unreturned}
+use Rattle.ck_htwrite.specs.Arena.{region_piece, AddsRegion, IsKept}
 use Rattle.ck_htwrite.specs.State.{Reflects}
 use Rattle.ck_htwrite.specs.Rebuild.{HoldKeysOnce, CanHoldAll}
 use Rattle.ck_words.proofs.Members.{adds as adds_piece}
 use Rattle.ck_htwrite.proofs.Openings.{still_of_table}
-use Rattle.ck_htwrite.proofs.Taking.{behind, apart_current, apart_items, kept_then}
+use Rattle.ck_htwrite.proofs.Taking.{behind, apart_current, apart_items, table_kept_then}
 
 -- of retirements, as of the items
 of_queue : (P : Retired → Type 0) (ks : List Retirement) → All P (queue ks) → All (λ (k : Retirement). P k.retired) ks
@@ -78,7 +79,7 @@ kept_after n place old root t0 t2 t3 waiting waiting' a b k kept new is item pen
     let adds : AddsPiece a b (region_piece root) = subst (λ (x : Arena). AddsPiece a x (region_piece root)) (sym is) (adds_piece a (region_piece root)) in
     let list : unreturned t3 waiting' ≡ unreturned t0 waiting ++ k ∷ [] = ap (unreturned t3) same ∙ (unreturned_more t2 t3 waiting k more still
     ∙ (λ i. drop (length (dispatched i) - length waiting) (queue (dispatched i)) ++ queue (pending i) ++ k ∷ [])) in
-    subst (λ (items : List Retired). IsKept n place root items b) (sym list) (kept_then n place old root (unreturned t0 waiting) a b k item kept new adds (still_of_table n a b (set.insert a.out (region_piece root)) is kept.of_table))
+    subst (λ (items : List Retired). IsKept n place root items b) (sym list) (table_kept_then n place old root (unreturned t0 waiting) a b k item kept new adds (still_of_table n a b (set.insert a.out (region_piece root)) is kept.of_table))
 
 -- where what was retired is as before
 pub same_unreturned : (t u : TokenState) (waiting waiting' : List Back) → u.pending ≡ t.pending → u.dispatched ≡ t.dispatched → waiting' ≡ waiting → unreturned u waiting' ≡ unreturned t waiting

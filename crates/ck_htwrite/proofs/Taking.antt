@@ -1,10 +1,10 @@
 -- What the writer's arena hands out is free by the account, and what it takes back is free then.
-use Rattle.std.proofs.Common.{◌≡◌, ◌≢◌, ℕ, ◌+◌, ◌-◌, ◌*◌, ◌^◌, ◌<◌, ◌≤◌, le_refl, ◌⊎◌, ⊎_elim, inl, inr, List, [], ◌∷◌, ◌++◌, refl, sym, ap, ◌∙◌, subst, pow-add, arith}
+use Rattle.std.proofs.Common.{◌≡◌, ℕ, ◌+◌, ◌-◌, ◌*◌, ◌^◌, ◌<◌, ◌≤◌, ⊎_elim, inl, inr, List, [], ◌∷◌, ◌++◌, sym, ap, ◌∙◌, pow-add, arith}
 use Rattle.std.specs.Prelude.{All}
 use Rattle.std.proofs.lemmas.Bool.{cases_lt}
 use Rattle.std.proofs.lemmas.Nat.{pow_pos}
 use Rattle.std.proofs.Math.Nat.{pow-le-pow_right}
-use Rattle.std.proofs.lemmas.List.Elements.{All-nil, All-cons, All-head, All-append, All-tail, All-weaker, Contains-append_left, Contains-push}
+use Rattle.std.proofs.lemmas.List.Elements.{All-tail, All-weaker}
 use Rattle.ck_words.specs.Buddies.{Arena, Piece, piece, IsPieceOut, IsFree, IsAlignedIn, ArePiecesApart, AddsPiece, DropsPiece}
 use Rattle.ck_epoch.specs.declared.item.Item.{Item}
 use Rattle.ck_epoch.specs.declared.item.Retired.{Retired}
@@ -12,21 +12,9 @@ use Rattle.ck_reclaim.specs.Pieces.{AreApart}
 use Rattle.ck_htplan.proofs.Orders.{four}
 use Rattle.ck_htlaw.specs.Layout.{at_of, log_of, region_item, IsTableItem}
 use Rattle.ck_htlaw.specs.Known.{IsRoot}
-use Rattle.ck_htwrite.specs.Arena.{region_piece, retired_piece, AreOnce, IsArenaOfTable, IsKept, HasNoneFree}
-
--- a piece that is free and one that is out share no word, so one ends where the other begins or before
-pub apart : (a : Arena) (p q : Piece) → IsFree a p → IsPieceOut a q → (q.at + 2 ^ q.log ≤ p.at) ⊎ (p.at + 2 ^ p.log ≤ q.at)
-apart a p q free is_out =
-    let some = pow_pos p.log in let any = pow_pos q.log in
-    ⊎_elim (λ (l : p.at < q.at + 2 ^ q.log). ⊎_elim
-    (λ (k : q.at < p.at + 2 ^ p.log). ⊎_elim
-    (λ (b : p.at < q.at). absurd (free q.at (omega arith, k) (q, (is_out, (le_refl q.at, omega arith)))))
-    (λ (b : q.at ≤ p.at). absurd (free p.at (le_refl p.at, omega arith) (q, (is_out, (b, l)))))
-    (cases_lt p.at q.at))
-    (λ (k : p.at + 2 ^ p.log ≤ q.at). inr k)
-    (cases_lt q.at (p.at + 2 ^ p.log)))
-    (λ (l : q.at + 2 ^ q.log ≤ p.at). inl l)
-    (cases_lt p.at (q.at + 2 ^ q.log))
+use Rattle.ck_arena.specs.Arena.{retired_piece, HasNoneFree, IsOutBeside}
+use Rattle.ck_arena.proofs.Taking.{apart, kept_then}
+use Rattle.ck_htwrite.specs.Arena.{region_piece, IsArenaOfTable, IsKept}
 
 -- a piece that went back is free
 pub freed : (a b : Arena) (p : Piece) → ArePiecesApart a → IsPieceOut a p → DropsPiece a b p → IsFree b p
@@ -92,12 +80,12 @@ behind P (x ∷ xs) ys h = behind P xs ys (All-tail P x (xs ++ ys) h)
 module _ (n place current root : ℕ) (items : List Retired) (a : Arena) (kept : IsKept n place current items a) (free : IsFree a (region_piece root)) where
   pub apart_current : AreApart (region_item place current) (region_item place root)
   apart_current = ⊎_elim (λ (l : at_of current + 2 ^ (log_of current + 2) ≤ at_of root). inl (omega arith)) (λ (l : at_of root + 2 ^ (log_of root + 2) ≤ at_of current). inr (omega arith))
-      (apart a (region_piece root) (region_piece current) free kept.present)
+      (apart a (region_piece root) (region_piece current) free kept.pieces.current)
 
   pub apart_items : All (λ (k : Retired). IsTableItem n place k.item → AreApart k.item (region_item place root)) items
-  apart_items = All-weaker (λ (k : Retired). IsTableItem n place k.item → IsPieceOut a (retired_piece place k) × (retired_piece place k ≢ region_piece current)) (λ (k : Retired). IsTableItem n place k.item → AreApart k.item (region_item place root))
+  apart_items = All-weaker (IsOutBeside (IsTableItem n place) place a (region_piece current)) (λ (k : Retired). IsTableItem n place k.item → AreApart k.item (region_item place root))
       (λ k out mine. let from = mine.0 in ⊎_elim (λ (l : k.item.at - place + 2 ^ k.item.log ≤ at_of root). inl (omega arith)) (λ (l : at_of root + 2 ^ (log_of root + 2) ≤ k.item.at - place). inr (omega arith))
-      (apart a (region_piece root) (retired_piece place k) free (out mine).0)) items kept.retired
+      (apart a (region_piece root) (retired_piece place k) free (out mine).0)) items kept.pieces.retired
 
 -- the arena once the region of this root is taken and is the present one, and the old one is retired
 module _ (n place old root : ℕ) (items : List Retired) (a b : Arena) (k : Retired) (is : k.item ≡ region_item place old) (kept : IsKept n place old items a) (new : ¬ IsPieceOut a (region_piece root))
@@ -105,30 +93,8 @@ module _ (n place old root : ℕ) (items : List Retired) (a b : Arena) (k : Reti
   piece_of : retired_piece place k ≡ region_piece old
   piece_of = ap (λ (i : Item). piece (i.at - place) i.log) is ∙ ap (λ (m : ℕ). piece m (log_of old + 2)) (let z : place + at_of old - place ≡ at_of old = omega arith in z)
 
-  stays : (p : Piece) → IsPieceOut a p → IsPieceOut b p × (p ≢ region_piece root)
-  stays p out = ((adds p).1 (inr out), λ e. new (subst (IsPieceOut a) e out))
-
-  abbrev IsOther : Retired → Type 0
-  IsOther j = IsTableItem n place j.item → IsPieceOut b (retired_piece place j) × (retired_piece place j ≢ region_piece root)
-
-  others : All IsOther items
-  others = All-weaker (λ (j : Retired). IsTableItem n place j.item → IsPieceOut a (retired_piece place j) × (retired_piece place j ≢ region_piece old)) IsOther (λ j out mine. stays (retired_piece place j) (out mine).0) items kept.retired
-
-  last : IsOther k
-  last mine = subst (λ (p : Piece). IsPieceOut b p × (p ≢ region_piece root)) (sym piece_of) (stays (region_piece old) kept.present)
-
-  once_more : (js : List Retired) → All (λ (j : Retired). IsTableItem n place j.item → IsPieceOut a (retired_piece place j) × (retired_piece place j ≢ region_piece old)) js → AreOnce n place js → AreOnce n place (js ++ k ∷ [])
-  once_more [] out once = (All-nil (λ (j : Retired). IsTableItem n place k.item → IsTableItem n place j.item → retired_piece place k ≢ retired_piece place j), tt)
-  once_more (j ∷ js) out once = let P : Retired → Type 0 = λ (i : Retired). IsTableItem n place j.item → IsTableItem n place i.item → retired_piece place j ≢ retired_piece place i in let Q : Retired → Type 0 = λ (i : Retired). IsTableItem n place i.item → IsPieceOut a (retired_piece place i) × (retired_piece place i ≢ region_piece old) in (
-    All-append P js (k ∷ []) once.0 (All-cons P k [] (λ mine other e. (All-head Q j js out mine).1 (e ∙ piece_of)) (All-nil P)),
-    once_more js (All-tail Q j js out) once.1,
-  )
-
-  pub kept_then : IsKept n place root (items ++ k ∷ []) b
-  kept_then = record {
+  pub table_kept_then : IsKept n place root (items ++ k ∷ []) b
+  table_kept_then = record {
     of_table = table;
-    present = (adds (region_piece root)).1 (inl refl);
-    retired = All-append IsOther items (k ∷ []) others (All-cons IsOther k [] last (All-nil IsOther));
-    once = once_more items kept.retired kept.once;
-    only = λ p out. ⊎_elim (λ e. inl e) (λ was. inr (⊎_elim (λ e. (k, Contains-push items k, piece_of ∙ sym e)) (λ w. (w.0, Contains-append_left items (k ∷ []) w.0 w.1, w.2)) (kept.only p was))) ((adds p).0 out);
+    pieces = kept_then (IsTableItem n place) place (region_piece old) (region_piece root) items a b k piece_of kept.pieces new adds;
   }

@@ -11,7 +11,8 @@ use Rattle.ck_htlaw.specs.Table.{Layout, WriterState}
 use Rattle.ck_htlaw.specs.Known.{IsRoot, knows}
 use Rattle.ck_htwrite.specs.declared.state.HtState.{HtState}
 use Rattle.ck_htwrite.specs.Writes.{counters_in, WriterIs}
-use Rattle.ck_htwrite.specs.Arena.{IsKept, unreturned}
+use Rattle.ck_arena.specs.Arena.{unreturned}
+use Rattle.ck_htwrite.specs.Arena.{IsKept}
 
 -- of a table with so many counters
 module _ (counters : ℕ) where

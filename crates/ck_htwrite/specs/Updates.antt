@@ -26,7 +26,8 @@ use Rattle.ck_htlaw.specs.Host.{Host, lies}
 use Rattle.ck_htlaw.specs.Known.{knows}
 use Rattle.ck_htwrite.specs.declared.state.HtState.{HtState}
 use Rattle.ck_htwrite.specs.declared.state.Need.{Need}
-use Rattle.ck_htwrite.specs.Arena.{AddsRegion, HasNoneFree, IsKept, unreturned}
+use Rattle.ck_arena.specs.Arena.{HasNoneFree, unreturned}
+use Rattle.ck_htwrite.specs.Arena.{AddsRegion, IsKept}
 use Rattle.ck_htwrite.specs.Rebuild.{rebuild_entries}
 use Rattle.ck_htwrite.specs.State.{counter_at, next_count, Mirrors, Reflects}
 use Rattle.ck_htwrite.specs.Writes.{counters_in, opened, Steps, WriterAt}
@@ -36,8 +37,8 @@ abbrev pub key_steps : Layout → ℕ → ℕ → ℕ → List Step
 key_steps l root at key = Store (l.word root at 1) (low_of key) ∷ Store (l.word root at 2) (high_of key) ∷ Store (l.word root at 0) 1 ∷ []
 
 -- the words after them
-abbrev pub keyed : Layout → ℕ → ℕ → ℕ → List ℕ → List ℕ
-keyed l root at key words = set (set (set words (l.word root at 1) (low_of key)) (l.word root at 2) (high_of key)) (l.word root at 0) 1
+abbrev pub keyed_words : Layout → ℕ → ℕ → ℕ → List ℕ → List ℕ
+keyed_words l root at key words = set (set (set words (l.word root at 1) (low_of key)) (l.word root at 2) (high_of key)) (l.word root at 0) 1
 
 -- The steps of the cases of an update, where a bump stores this number in the counter: a fresh key takes an empty slot, or a tombstone;
 -- a present one moves to an earlier tombstone; a key is removed
@@ -90,9 +91,9 @@ abbrev pub AddsFresh : List ℕ → ℕ → ℕ → Type 0
 AddsFresh opens key value = (l : Layout) (p : WriterState) (at : ℕ) → plan_now l p key ≡ Empty at → (word : ℕ) → by_call l p (opening_of opens) word ≡ adds l p empty (record { key = key; number = value; to = at }) word
 
 -- what the call answers, which is settled at its first step
-abbrev pub settled : Layout → WriterState → Stage → List ℕ → LogEntry ℕ → LogEntry ℕ
-settled l p idle opens due = answer_to l p (opening_of opens)
-settled l p g opens due = due
+abbrev pub settled_answer : Layout → WriterState → Stage → List ℕ → LogEntry ℕ → LogEntry ℕ
+settled_answer l p idle opens due = answer_to l p (opening_of opens)
+settled_answer l p g opens due = due
 
 -- The writer, with these lists, is about to do this by a step that opens this
 pub record IsAbout (counters : ℕ) (l : Layout) (p : WriterState) (s : HtState) (opens : List ℕ) (a : Action) : Type 0 where

@@ -1,5 +1,5 @@
 //! The calls that update a table, over any domain whose client holds it.
-ghost use Rattle.std.specs.Prelude.{◌≡◌, ◌+◌, ◌<◌, ◌≤◌, ◌^◌, List, [], ◌∷◌, ◌++◌, length, MatchResult, IfOk, IfErr};
+ghost use Rattle.std.specs.Prelude.{◌≡◌, ◌+◌, ◌<◌, ◌≤◌, ◌^◌, ◌⊎◌, List, [], ◌∷◌, ◌++◌, length, MatchResult, IfOk, IfErr};
 ghost use Rattle.std.specs.Ordering.{nat_cmp};
 ghost use Rattle.ck_run.specs.declared.account.Step.{Step};
 ghost use Rattle.ck_run.specs.declared.account.Entry.{Entry};
@@ -13,7 +13,8 @@ ghost use Rattle.ck_htlaw.specs.Table.{WriterState};
 ghost use Rattle.ck_htlaw.specs.Actions.{most, plan_now};
 ghost use Rattle.ck_htlaw.specs.Linearized.{map_after};
 ghost use Rattle.ck_htlaw.specs.Known.{knows};
-ghost use Rattle.ck_htwrite.specs.Arena.{unreturned, HasNoneFree, MayAddRegion};
+ghost use Rattle.ck_arena.specs.Arena.{unreturned, HasNoneFree};
+ghost use Rattle.ck_htwrite.specs.Arena.{AddsRegion, MayAddRegion};
 ghost use Rattle.ck_htwrite.specs.State.{Ready};
 ghost use Rattle.ck_htwrite.specs.Updates.{SetSteps, PutSteps, RemoveSteps, IsNeeded, IsRebuildDue, Makes, needed_log};
 ghost use Rattle.ck_htwrite.specs.Writes.{WriterIs, counters_in, opened};
@@ -44,6 +45,7 @@ pub fn set<D: Within<HtClient>, F>(
     ensures waiting { (writer.new.waiting ≡ writer.old.waiting) × (writer.new.room ≡ writer.old.room) }
     ensures pending { length (epochs writer.new.token).pending ≤ length (epochs writer.old.token).pending + 1 }
     ensures items { IfOk result (λ r. MayAddRegion (counters_in (host D.meaning D.place D.part) domain.now.origin) (D.place domain.now.origin.config.client) (unreturned (epochs writer.old.token) writer.old.waiting) (unreturned (epochs writer.new.token) writer.new.waiting)) }
+    ensures root { IfOk result (λ r. (state.new.root ≡ state.old.root) ⊎ AddsRegion (counters_in (host D.meaning D.place D.part) domain.now.origin) (D.place domain.now.origin.config.client) (unreturned (epochs writer.old.token) writer.old.waiting) (unreturned (epochs writer.new.token) writer.new.waiting)) }
     ensures table { table writer.new.token ≡ table writer.old.token }
     ensures reply { IfOk result (λ r. r ≡ (step nat_cmp most (map_after (knows (host D.meaning D.place D.part) domain.now.origin writer.old.token).log) (Set key value)).1) }
     ensures log { IfOk result (λ r. (knows (host D.meaning D.place D.part) domain.now.origin writer.new.token).log ≡ (knows (host D.meaning D.place D.part) domain.now.origin writer.old.token).log ++ record { update = Set key value; reply = r } ∷ []) }
@@ -77,6 +79,7 @@ pub fn put<D: Within<HtClient>, F>(
     ensures waiting { (writer.new.waiting ≡ writer.old.waiting) × (writer.new.room ≡ writer.old.room) }
     ensures pending { length (epochs writer.new.token).pending ≤ length (epochs writer.old.token).pending + 1 }
     ensures items { IfOk result (λ r. MayAddRegion (counters_in (host D.meaning D.place D.part) domain.now.origin) (D.place domain.now.origin.config.client) (unreturned (epochs writer.old.token) writer.old.waiting) (unreturned (epochs writer.new.token) writer.new.waiting)) }
+    ensures root { IfOk result (λ r. (state.new.root ≡ state.old.root) ⊎ AddsRegion (counters_in (host D.meaning D.place D.part) domain.now.origin) (D.place domain.now.origin.config.client) (unreturned (epochs writer.old.token) writer.old.waiting) (unreturned (epochs writer.new.token) writer.new.waiting)) }
     ensures table { table writer.new.token ≡ table writer.old.token }
     ensures reply { IfOk result (λ r. r ≡ (step nat_cmp most (map_after (knows (host D.meaning D.place D.part) domain.now.origin writer.old.token).log) (Put key value)).1) }
     ensures log { IfOk result (λ r. (knows (host D.meaning D.place D.part) domain.now.origin writer.new.token).log ≡ (knows (host D.meaning D.place D.part) domain.now.origin writer.old.token).log ++ record { update = Put key value; reply = r } ∷ []) }
@@ -106,6 +109,7 @@ pub fn remove<D: Within<HtClient>, F>(
     ensures same { writer.new ≡ record writer.old { token = writer.new.token; calls = writer.old.calls + 1; tally = writer.old.tally + 1 } }
     ensures pending { (epochs writer.new.token).pending ≡ (epochs writer.old.token).pending }
     ensures items { (unreturned (epochs writer.new.token) writer.new.waiting) ≡ (unreturned (epochs writer.old.token) writer.old.waiting) }
+    ensures root { state.new.root ≡ state.old.root }
     ensures table { table writer.new.token ≡ table writer.old.token }
     ensures reply { result ≡ (step nat_cmp most (map_after (knows (host D.meaning D.place D.part) domain.now.origin writer.old.token).log) (Del key)).1 }
     ensures log { (knows (host D.meaning D.place D.part) domain.now.origin writer.new.token).log ≡ (knows (host D.meaning D.place D.part) domain.now.origin writer.old.token).log ++ record { update = Del key; reply = result } ∷ [] }

@@ -23,7 +23,7 @@ use ck_probe::key_code;
 const SLOT: u64 = 4;
 
 // The word `j` of a slot.
-fn word_in(words: &Vec<u64>, at: u64, j: u64) -> u64
+pub(crate) fn word_in(words: &Vec<u64>, at: u64, j: u64) -> u64
     requires { 4 * at + j < length words.now.items }
     ensures { result ≡ slice_index words.now.items (4 * at + j) }
 {

@@ -18,7 +18,8 @@ ghost use Rattle.ck_htlaw.specs.Stages.{idle, after_rebuild};
 ghost use Rattle.ck_htlaw.specs.Table.{WriterState};
 ghost use Rattle.ck_htwrite.specs.Rebuild.{BeginsRebuildAt, CanHoldAll, CopiesAt, GoesOnAfter, EndsAfter, HoldKeysOnce, Rebuilt, adopted_lists, rebuild_entries};
 ghost use Rattle.ck_htplan.specs.Region.{view_of};
-ghost use Rattle.ck_htwrite.specs.Arena.{unreturned, AddsRegion, IsKept, HasNoneFree};
+ghost use Rattle.ck_arena.specs.Arena.{unreturned, HasNoneFree};
+ghost use Rattle.ck_htwrite.specs.Arena.{AddsRegion, IsKept};
 ghost use Rattle.ck_htwrite.specs.State.{IsReady, Reflects};
 ghost use Rattle.ck_htwrite.specs.Writes.{counters_in, opened, IsFreeBy, Steps, WriterAt, WriterIs};
 

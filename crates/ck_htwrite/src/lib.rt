@@ -4,6 +4,7 @@
 mod calls;
 mod cases;
 mod copies;
+mod entries;
 mod growth;
 mod rebuild;
 mod state;

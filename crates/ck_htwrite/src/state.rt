@@ -4,7 +4,8 @@ ghost use Rattle.std.specs.FinSet as set;
 ghost use Rattle.ck_words.specs.Buddies.{piece, with_pieces_out, free_words, ArePiecesApart, IsPieceOut, IsFree};
 ghost use Rattle.ck_htlaw.specs.Layout.{arena, arena_words, counters_of, log_of};
 ghost use Rattle.ck_htlaw.specs.Known.{IsRoot};
-ghost use Rattle.ck_htwrite.specs.Arena.{region_piece, IsArenaOfTable, IsKept, HasNoneFree};
+ghost use Rattle.ck_arena.specs.Arena.{HasNoneFree};
+ghost use Rattle.ck_htwrite.specs.Arena.{region_piece, IsArenaOfTable, IsKept};
 ghost use Rattle.ck_htwrite.specs.State.{IsShaped, most_words};
 
 use ck_htlaw::HtClient;

@@ -1,11 +1,10 @@
 //! The cases of an update, store by store.
-ghost use Rattle.std.specs.Prelude.{◌≡◌, ◌+◌, ◌^◌, ◌<◌, map};
-ghost use Rattle.ck_run.specs.Run.{further};
+ghost use Rattle.std.specs.Prelude.{◌≡◌, ◌+◌, ◌^◌, ◌<◌};
 ghost use Rattle.ck_run.specs.Tokens.{table};
 ghost use Rattle.ck_htlaw.specs.Host.{host, lies};
 ghost use Rattle.ck_htlaw.specs.Layout.{log_of};
 ghost use Rattle.ck_htwrite.specs.State.{IsShaped, next_count};
-ghost use Rattle.ck_htwrite.specs.Updates.{key_steps, insert_steps, reuse_steps, move_steps, remove_steps, keyed_lists, inserted_lists, reused_lists, moved_lists, removed_lists};
+ghost use Rattle.ck_htwrite.specs.Updates.{insert_steps, reuse_steps, move_steps, remove_steps, valued_lists, keyed_lists, inserted_lists, reused_lists, moved_lists, removed_lists};
 ghost use Rattle.ck_htwrite.specs.Writes.{counters_in, opened, MayMake, Steps};
 
 use crate::state::HtState;
@@ -30,21 +29,23 @@ pub(crate) const FULL: u64 = 1;
 
 pub(crate) const TOMBSTONE: u64 = 2;
 
-// A slot that has its value gets its key, and is full then: a look that loaded 1 finds all its words.
-pub(crate) fn fill<D: Within<HtClient>, F>(
+// A slot gets its value, then its key, and is full then: a look that loaded 1 finds all its words.
+fn place<D: Within<HtClient>, F, O: Opens>(
     domain: &Domain<D>,
     writer: &mut Writer<D, F>,
     state: &mut HtState,
     at: u64,
     key: Key,
+    value: u64,
 )
     requires table { table writer.old.token ≡ domain.now }
     requires shape { IsShaped (counters_in (host D.meaning D.place D.part) domain.now.origin) state.old }
     requires slot { at < 2 ^ log_of state.old.root }
-    requires due { MayMake (host D.meaning D.place D.part) domain.now.origin writer.old.token (map further (key_steps (lies (host D.meaning D.place D.part) domain.now.origin) state.old.root at key)) }
-    ensures steps { Steps (host D.meaning D.place D.part) domain.now.origin writer.old (map further (key_steps (lies (host D.meaning D.place D.part) domain.now.origin) state.old.root at key)) writer.new }
-    ensures state { state.new ≡ keyed_lists state.old at key }
+    requires due { MayMake (host D.meaning D.place D.part) domain.now.origin writer.old.token (opened O.opens (insert_steps (lies (host D.meaning D.place D.part) domain.now.origin) state.old.root at key value)) }
+    ensures steps { Steps (host D.meaning D.place D.part) domain.now.origin writer.old (opened O.opens (insert_steps (lies (host D.meaning D.place D.part) domain.now.origin) state.old.root at key value)) writer.new }
+    ensures state { state.new ≡ keyed_lists (valued_lists state.old at value) at key }
 {
+    put_word::<D, F, O>(domain, writer, state, at, VALUE, value);
     put_word::<D, F, Continues>(domain, writer, state, at, LOW, low_word(key));
     put_word::<D, F, Continues>(domain, writer, state, at, HIGH, high_word(key));
     put_word::<D, F, Continues>(domain, writer, state, at, STATE, FULL);
@@ -67,8 +68,7 @@ pub(crate) fn insert<D: Within<HtClient>, F, O: Opens>(
     ensures steps { Steps (host D.meaning D.place D.part) domain.now.origin writer.old (opened O.opens (insert_steps (lies (host D.meaning D.place D.part) domain.now.origin) state.old.root at key value)) writer.new }
     ensures state { state.new ≡ inserted_lists state.old at key value }
 {
-    put_word::<D, F, O>(domain, writer, state, at, VALUE, value);
-    fill(domain, writer, state, at, key);
+    place::<D, F, O>(domain, writer, state, at, key, value);
     state.keys += 1;
 }
 
@@ -92,8 +92,7 @@ pub(crate) fn reuse<D: Within<HtClient>, F, O: Opens>(
     ensures state { state.new ≡ reused_lists (counters_in (host D.meaning D.place D.part) domain.now.origin) state.old at key value }
 {
     bump::<D, F, O>(domain, writer, state);
-    put_word::<D, F, Continues>(domain, writer, state, at, VALUE, value);
-    fill(domain, writer, state, at, key);
+    place::<D, F, Continues>(domain, writer, state, at, key, value);
     state.keys += 1;
     state.tombstones -= 1;
 }
@@ -119,8 +118,7 @@ pub(crate) fn move_key<D: Within<HtClient>, F, O: Opens>(
     ensures state { state.new ≡ moved_lists (counters_in (host D.meaning D.place D.part) domain.now.origin) state.old to from key value }
 {
     bump::<D, F, O>(domain, writer, state);
-    put_word::<D, F, Continues>(domain, writer, state, to, VALUE, value);
-    fill(domain, writer, state, to, key);
+    place::<D, F, Continues>(domain, writer, state, to, key, value);
     bump::<D, F, Continues>(domain, writer, state);
     put_word::<D, F, Continues>(domain, writer, state, from, STATE, TOMBSTONE);
 }

@@ -1,4 +1,4 @@
-use Rattle.std.proofs.Common.{◌≡◌, ℕ, ◌+◌, List, [], ◌++◌, append-nil, refl, sym, ap, ◌∙◌, subst, arith}
+use Rattle.std.proofs.Common.{◌≡◌, ℕ, ◌+◌, ◌*◌, ◌^◌, ◌≤◌, List, [], ◌++◌, append-nil, refl, sym, ap, ◌∙◌, subst, arith}
 use Rattle.std.specs.List.Sorted.{IsPermutation}
 use Rattle.std.proofs.lemmas.List.Elements.{All-append}
 use Rattle.ck_run.specs.declared.account.Entry.{Entry}
@@ -13,15 +13,19 @@ use Rattle.ck_signal.specs.declared.signals.Signals.{Signals}
 use Rattle.ck_htlaw.specs.declared.client.HtClient.{HtClient}
 use Rattle.ck_htlaw.specs.Client.{home_of}
 use Rattle.ck_htlaw.specs.Known.{knows}
+use Rattle.ck_htlaw.specs.Layout.{arena_words, log_of}
 use Rattle.ck_htlaw.specs.Reached.{with_signals}
 use Rattle.ck_htwrite.specs.declared.state.HtState.{HtState}
-use Rattle.ck_htwrite.specs.Arena.{unreturned, AreTableItems, IsKept}
+use Rattle.ck_arena.specs.Arena.{unreturned, AreBacks}
+use Rattle.ck_htwrite.specs.Arena.{AreTableItems, IsKept}
+use Rattle.ck_htlaw.specs.Linearized.{map_after}
+use Rattle.ck_htwrite.specs.Entries.{HasKeys}
 use Rattle.ck_htwrite.specs.State.{Ready}
 use Rattle.ck_htwrite.specs.Writes.{counters_in}
-use Rattle.ck_htwrite.proofs.Giving.{listed}
-use Rattle.ck_ht.specs.Ends.{AreBacks, IsWriterReady}
+use Rattle.ck_arena.proofs.Giving.{listed}
+use Rattle.ck_ht.specs.Ends.{IsWriterReady}
 use Rattle.ck_ht.specs.Events.{hand_events}
-use Rattle.ck_ht.proofs.Backs.{after_dispatch}
+use Rattle.ck_ht.proofs.Regions.{after_table_dispatch}
 use Rattle.ck_ht.proofs.Staying.{ready_given, ready_outside}
 use Rattle.ck_ht.proofs.UpdateEvents.{call_quiet, updates_are_events}
 use Rattle.ck_ht.proofs.Waits.{IsLow, low_call, low_round, outside_below}
@@ -33,10 +37,10 @@ module _ {F : Type 0} (o : Origin (Signals HtClient)) (w v : Writer (Signals HtC
   abbrev n : ℕ
   n = counters_in with_signals o
 
-  dispatched : IsKept n 0 s.root (unreturned (state v.token) v.waiting) s.arena × AreTableItems n 0 (unreturned (state v.token) v.waiting) × AreBacks (state v.token) v.waiting
+  dispatched : IsKept n 0 s.root (unreturned (state v.token) v.waiting) s.arena × AreTableItems n 0 (unreturned (state v.token) v.waiting) × AreBacks home_of (state v.token) v.waiting
   dispatched =
       let items = queue (state w.token).pending in
-      after_dispatch n s.root (state w.token) (state v.token) (by_list items) [] v.waiting s.arena
+      after_table_dispatch n s.root (state w.token) (state v.token) (by_list items) [] v.waiting s.arena
       (subst (λ (ws : List Back). AreTableItems n 0 (unreturned (state w.token) ws)) r.given r.own) (subst (λ (ws : List Back). IsKept n 0 s.root (unreturned (state w.token) ws) s.arena) r.given r.ready.arena)
       (waits ∙ ap (λ (ws : List Back). ws ++ homes home_of (by_list items)) r.given) more (ap queue none) (subst (IsPermutation items) (sym (append-nil (by_list items))) (listed items))
 
@@ -96,5 +100,7 @@ returns-clause-ready g c =
       ready = ready_given with_signals o v c.give_back.new.writer c.args.state.now c.give_back.new.state (still o c.args.writer.now v c.args.state.now c.requires.ready b.waiting b.pending b.dispatched b.steps (ap (λ x. x.tally) b.same) (ap (λ x. x.calls) b.same)).0 e.writer e.lists e.kept;
       own = e.own;
       given = ap (λ x. x.waiting) e.writer;
-      room = ap (λ x. x.room) e.writer ∙ (ap (λ x. x.room) b.same ∙ c.requires.ready.room);
+      room = subst (λ (k : ℕ). counters_in with_signals o ≤ k) (sym (ap (λ x. x.room) e.writer ∙ ap (λ x. x.room) b.same)) c.requires.ready.room;
+      half = subst (λ (r : ℕ). 2 * 2 ^ (log_of r + 2) ≤ arena_words (counters_in with_signals o)) (sym (ap (λ x. x.root) e.lists)) c.requires.ready.half;
+      keys = subst (λ (us : _). HasKeys (map_after us)) (sym (ap (λ x. (knows with_signals o x.token).log) e.writer ∙ (still o c.args.writer.now v c.args.state.now c.requires.ready b.waiting b.pending b.dispatched b.steps (ap (λ x. x.tally) b.same) (ap (λ x. x.calls) b.same)).1)) c.requires.ready.keys;
     }

@@ -1,8 +1,19 @@
 use Rattle.std.proofs.Common.{true, false, ap, sym, ◌∙◌}
 use Rattle.ck_htlaw.specs.Look.{at_state, at_low, at_high, at_value}
+use Rattle.ck_htread.specs.Reading.{LookTotals, IsInState}
 use Rattle.ck_htread.proofs.SlotLoads.{vacant_goes, full_goes, other_goes, low_goes, key_goes, value_goes, word_in, loads_is, tells_vacant, tells_other, tells_other_key, tells_match}
 use Rattle.ck_htlaw.specs.Host.{host}
+use Rattle.ck_htread.proofs.reading.load_slot.Given as given
 use Rattle.ck_htread.proofs.reading.load_slot.Goals as goal
+use Rattle.ck_htread.proofs.reading.load_slot.Goals.{After-load-low}
+
+-- the look goes on to the high word
+low_loaded : (g : given.Over) (c : After-load-low g) → let h = host g.D.Client.meaning g.D.Within.place g.D.Within.part in let o = c.args.domain.now.origin in let p = c.args.search.now in
+    (totals : LookTotals) → IsInState h o p.root (at_state p.key p.counter c.args.i) totals c.args.pass.now.token → IsInState h o p.root (at_high p.key p.counter c.args.i c.load-low.result) totals c.load-low.new.pass.token
+low_loaded g c totals at =
+    let ht = host g.D.Client.meaning g.D.Within.place g.D.Within.part in let o = c.args.domain.now.origin in let p = c.args.search.now in let i = c.args.i in
+    let full = full_goes ht o p i totals c.load-state.new.pass.token c.load-state.result c.if-state-ne-FULL.false (c.load-state.ensures.at p.root (at_state p.key p.counter i) totals at tt) in
+    low_goes ht o p i totals c.load-low.new.pass.token c.load-low.result (c.load-low.ensures.at p.root (at_low p.key p.counter i) totals full tt)
 
 pub load-low-requires-clause-due : goal.load-low-requires-clause-due
 load-low-requires-clause-due g c =
@@ -19,12 +30,11 @@ load-low-requires-clause-due g c =
 pub load-high-requires-clause-due : goal.load-high-requires-clause-due
 load-high-requires-clause-due g c =
     let ht = host g.D.Client.meaning g.D.Within.place g.D.Within.part in let o = c.args.domain.now.origin in let p = c.args.search.now in let i = c.args.i in
-    let totals = c.requires.at.0 in
-    let at1 = full_goes ht o p i totals c.load-state.new.pass.token c.load-state.result c.if-state-ne-FULL.false (c.load-state.ensures.at p.root (at_state p.key p.counter i) totals c.requires.at.1 tt) in (
+    let totals = c.requires.at.0 in (
       p.root,
       at_high p.key p.counter i c.load-low.result,
       totals,
-      low_goes ht o p i totals c.load-low.new.pass.token c.load-low.result (c.load-low.ensures.at p.root (at_low p.key p.counter i) totals at1 tt),
+      low_loaded g (goal.at.load-high-requires-clause-due g c).After-load-low totals c.requires.at.1,
       tt,
       (λ n. word_in ht o p i totals c.slot.result 2 p.hash c.slot.ensures.value c.requires.search.hash),
     )
@@ -33,8 +43,7 @@ pub load-value-requires-clause-due : goal.load-value-requires-clause-due
 load-value-requires-clause-due g c =
     let ht = host g.D.Client.meaning g.D.Within.place g.D.Within.part in let o = c.args.domain.now.origin in let p = c.args.search.now in let i = c.args.i in
     let totals = c.requires.at.0 in
-    let at1 = full_goes ht o p i totals c.load-state.new.pass.token c.load-state.result c.if-state-ne-FULL.false (c.load-state.ensures.at p.root (at_state p.key p.counter i) totals c.requires.at.1 tt) in
-    let at2 = low_goes ht o p i totals c.load-low.new.pass.token c.load-low.result (c.load-low.ensures.at p.root (at_low p.key p.counter i) totals at1 tt) in (
+    let at2 = low_loaded g (goal.at.load-value-requires-clause-due g c).After-load-low totals c.requires.at.1 in (
       p.root,
       at_value p.key p.counter i,
       totals,
@@ -65,8 +74,7 @@ pub returns-then-not-is_key-clause-slot : goal.returns-then-not-is_key-clause-sl
 returns-then-not-is_key-clause-slot g c totals at =
     let ht = host g.D.Client.meaning g.D.Within.place g.D.Within.part in let o = c.args.domain.now.origin in let p = c.args.search.now in let i = c.args.i in
     let t = c.args.pass.now.token in let t1 = c.load-state.new.pass.token in let t2 = c.load-low.new.pass.token in let t3 = c.load-high.new.pass.token in
-    let at1 = full_goes ht o p i totals t1 c.load-state.result c.if-state-ne-FULL.false (c.load-state.ensures.at p.root (at_state p.key p.counter i) totals at tt) in
-    let at2 = low_goes ht o p i totals t2 c.load-low.result (c.load-low.ensures.at p.root (at_low p.key p.counter i) totals at1 tt) in
+    let at2 = low_loaded g (goal.at.returns-then-not-is_key-clause-slot g c).After-load-low totals at in
     tells_other_key ht o p i totals t t1 t2 t3 c.load-state.result c.load-low.result c.load-high.result
     (loads_is ht o p i totals t t1 0 _ c.load-state.result (ap (λ q. q.token) c.load-state.ensures.step) (word_in ht o p i totals c.slot.result 0 p.hash c.slot.ensures.value c.requires.search.hash))
     (loads_is ht o p i totals t1 t2 1 _ c.load-low.result (ap (λ q. q.token) c.load-low.ensures.step) (word_in ht o p i totals c.slot.result 1 p.hash c.slot.ensures.value c.requires.search.hash))
@@ -78,8 +86,7 @@ pub returns-clause-slot : goal.returns-clause-slot
 returns-clause-slot g c totals at =
     let ht = host g.D.Client.meaning g.D.Within.place g.D.Within.part in let o = c.args.domain.now.origin in let p = c.args.search.now in let i = c.args.i in
     let t = c.args.pass.now.token in let t1 = c.load-state.new.pass.token in let t2 = c.load-low.new.pass.token in let t3 = c.load-high.new.pass.token in let t4 = c.load-value.new.pass.token in
-    let at1 = full_goes ht o p i totals t1 c.load-state.result c.if-state-ne-FULL.false (c.load-state.ensures.at p.root (at_state p.key p.counter i) totals at tt) in
-    let at2 = low_goes ht o p i totals t2 c.load-low.result (c.load-low.ensures.at p.root (at_low p.key p.counter i) totals at1 tt) in
+    let at2 = low_loaded g (goal.at.returns-clause-slot g c).After-load-low totals at in
     let here = sym c.is_key.ensures ∙ c.if-not-is_key.false in
     let at3 = key_goes ht o p i totals t3 c.load-low.result c.load-high.result true here (c.load-high.ensures.at p.root (at_high p.key p.counter i c.load-low.result) totals at2 tt) in
     tells_match ht o p i totals t t1 t2 t3 c.load-state.result c.load-low.result c.load-high.result

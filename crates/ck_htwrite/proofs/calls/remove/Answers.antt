@@ -1,4 +1,4 @@
-use Rattle.std.proofs.Common.{◌≡◌, ℕ, ◌+◌, List, [], ◌∷◌, ◌++◌, sym, ap, ◌∙◌, subst}
+use Rattle.std.proofs.Common.{◌≡◌, ℕ, ◌+◌, List, [], ◌∷◌, ◌++◌, sym, ap, ◌∙◌, subst, rules}
 use Rattle.ck_run.specs.declared.account.Step.{Step}
 use Rattle.ck_run.specs.Tokens.{table, adding}
 use Rattle.ck_history.specs.declared.update.Reply.{Reply}
@@ -10,7 +10,7 @@ use Rattle.ck_htlaw.specs.Calls.{opening_of, removing, remove}
 use Rattle.ck_htlaw.specs.Table.{WriterState}
 use Rattle.ck_htlaw.specs.Actions.{answer_to, plan_now, remove_reply}
 use Rattle.ck_htlaw.specs.Known.{knows}
-use Rattle.ck_htwrite.specs.Arena.{unreturned}
+use Rattle.ck_arena.specs.Arena.{unreturned}
 use Rattle.ck_htwrite.specs.State.{Ready}
 use Rattle.ck_htwrite.specs.Updates.{RemoveSteps}
 use Rattle.ck_htwrite.specs.Writes.{opened}
@@ -19,93 +19,14 @@ use Rattle.ck_htwrite.proofs.calls.remove.Goals as goal
 
 pub remove_by-reply-requires-clause-small : goal.remove_by-reply-requires-clause-small
 remove_by-reply-requires-clause-small g c =
-    let o = c.args.domain.now.origin in
-    let h = host g.D.Client.meaning g.D.Within.place g.D.Within.part in
-    let l = lies h o in let s = c.args.state.now in let w = c.args.writer.now in let t = w.token in let key : ℕ = c.args.key in
-    let same = ap (λ v. v.origin) c.requires.table in let writing = c.tally-updates.ensures.writing in
-    let ready = c.requires.ready in let r = ready.lists in let p = r.is_writer in
-    let planned = c.plan_for-plan.ensures.plan p r.reflects in
-    small h g.met.D.Within.within o t same writing.part writing.first s r w.tally w.calls ready.tally ready.few c.requires.calls
+    let w = c.args.writer.now in let writing = c.tally-updates.ensures.writing in let ready = c.requires.ready in
+    small (host g.D.Client.meaning g.D.Within.place g.D.Within.part) g.met.D.Within.within c.args.domain.now.origin w.token (ap (λ v. v.origin) c.requires.table) writing.part writing.first c.args.state.now ready.lists w.tally w.calls ready.tally ready.few c.requires.calls
 
 pub remove_by-reply-requires-clause-due : goal.remove_by-reply-requires-clause-due
-remove_by-reply-requires-clause-due g c =
-    let o = c.args.domain.now.origin in
-    let h = host g.D.Client.meaning g.D.Within.place g.D.Within.part in
-    let l = lies h o in let s = c.args.state.now in let w = c.args.writer.now in let t = w.token in let key : ℕ = c.args.key in
-    let same = ap (λ v. v.origin) c.requires.table in let writing = c.tally-updates.ensures.writing in
-    let ready = c.requires.ready in let r = ready.lists in let p = r.is_writer in
-    let planned = c.plan_for-plan.ensures.plan p r.reflects in
-    (r, planned)
+remove_by-reply-requires-clause-due g c = let r = c.requires.ready.lists in (r, c.plan_for-plan.ensures.plan r.is_writer r.reflects)
 
-pub returns-clause-table : goal.returns-clause-table
-returns-clause-table g c =
-    let o = c.args.domain.now.origin in
-    let h = host g.D.Client.meaning g.D.Within.place g.D.Within.part in
-    let l = lies h o in let s = c.args.state.now in let w = c.args.writer.now in let t = w.token in let key : ℕ = c.args.key in
-    let same = ap (λ v. v.origin) c.requires.table in let writing = c.tally-updates.ensures.writing in
-    let ready = c.requires.ready in let r = ready.lists in let p = r.is_writer in
-    let planned = c.plan_for-plan.ensures.plan p r.reflects in
-    let made = c.remove_by-reply.ensures.made r planned in
-    ap (λ v. table v.token) c.set_tally.ensures ∙ ap (λ v. table v.token) made.made.made
-
-pub returns-clause-pending : goal.returns-clause-pending
-returns-clause-pending g c =
-    let o = c.args.domain.now.origin in
-    let h = host g.D.Client.meaning g.D.Within.place g.D.Within.part in
-    let l = lies h o in let s = c.args.state.now in let w = c.args.writer.now in let t = w.token in let key : ℕ = c.args.key in
-    let same = ap (λ v. v.origin) c.requires.table in let writing = c.tally-updates.ensures.writing in
-    let ready = c.requires.ready in let r = ready.lists in let p = r.is_writer in
-    let planned = c.plan_for-plan.ensures.plan p r.reflects in
-    let made = c.remove_by-reply.ensures.made r planned in
-    ap (λ v. (state v.token).pending) c.set_tally.ensures ∙ made.made.same.0
-
-pub returns-clause-items : goal.returns-clause-items
-returns-clause-items g c =
-    let o = c.args.domain.now.origin in
-    let h = host g.D.Client.meaning g.D.Within.place g.D.Within.part in
-    let l = lies h o in let s = c.args.state.now in let w = c.args.writer.now in let t = w.token in let key : ℕ = c.args.key in
-    let same = ap (λ v. v.origin) c.requires.table in let writing = c.tally-updates.ensures.writing in
-    let ready = c.requires.ready in let r = ready.lists in let p = r.is_writer in
-    let planned = c.plan_for-plan.ensures.plan p r.reflects in
-    let made = c.remove_by-reply.ensures.made r planned in
-    ap (λ v. unreturned (state v.token) v.waiting) c.set_tally.ensures ∙ (λ i. unreturned (record (state c.remove_by-reply.new.writer.token) { pending = made.made.same.0 i; dispatched = made.made.same.1 i }) ((ap (λ v. v.waiting) made.made.made) i))
-
-pub returns-clause-reply : goal.returns-clause-reply
-returns-clause-reply g c =
-    let o = c.args.domain.now.origin in
-    let h = host g.D.Client.meaning g.D.Within.place g.D.Within.part in
-    let l = lies h o in let s = c.args.state.now in let w = c.args.writer.now in let t = w.token in let key : ℕ = c.args.key in
-    let same = ap (λ v. v.origin) c.requires.table in let writing = c.tally-updates.ensures.writing in
-    let ready = c.requires.ready in let r = ready.lists in let p = r.is_writer in
-    let planned = c.plan_for-plan.ensures.plan p r.reflects in
-    let made = c.remove_by-reply.ensures.made r planned in
-    made.reply_is ∙ (ap (remove_reply l p) (sym planned) ∙ sym (answers h g.met.D.Within.within o t same writing.part writing.first s r (removing key)))
-
-pub returns-clause-log : goal.returns-clause-log
-returns-clause-log g c =
-    let o = c.args.domain.now.origin in
-    let h = host g.D.Client.meaning g.D.Within.place g.D.Within.part in
-    let l = lies h o in let s = c.args.state.now in let w = c.args.writer.now in let t = w.token in let key : ℕ = c.args.key in
-    let same = ap (λ v. v.origin) c.requires.table in let writing = c.tally-updates.ensures.writing in
-    let ready = c.requires.ready in let r = ready.lists in let p = r.is_writer in
-    let planned = c.plan_for-plan.ensures.plan p r.reflects in
-    let made = c.remove_by-reply.ensures.made r planned in
-    ap (λ v. (knows h o v.token).log) c.set_tally.ensures ∙ (made.over.at.log ∙ ap (λ (x : Reply). (knows h o t).log ++ record { update = Del key; reply = x } ∷ []) (ap (remove_reply l p) planned ∙ sym made.reply_is))
-
-pub returns-clause-steps : goal.returns-clause-steps
-returns-clause-steps g c q is =
-    let o = c.args.domain.now.origin in
-    let h = host g.D.Client.meaning g.D.Within.place g.D.Within.part in
-    let l = lies h o in let s = c.args.state.now in let w = c.args.writer.now in let t = w.token in let key : ℕ = c.args.key in
-    let same = ap (λ v. v.origin) c.requires.table in let writing = c.tally-updates.ensures.writing in
-    let ready = c.requires.ready in let r = ready.lists in let p = r.is_writer in
-    let planned = c.plan_for-plan.ensures.plan p r.reflects in
-    let made = c.remove_by-reply.ensures.made r planned in
-    subst (λ (x : WriterState). (ss : List Step) × RemoveSteps l x (plan_now l x key) ss × (c.set_tally.new.self.token ≡ adding t (opened (remove ∷ key ∷ []) ss))) (same_writer h g.met.D.Within.within o t s r q is)
-    (made.steps, subst (λ (z : Plan). RemoveSteps l p z made.steps) (sym planned) made.are, ap (λ v. v.token) c.set_tally.ensures ∙ ap (λ v. v.token) made.made.made)
-
-pub returns-clause-ready : goal.returns-clause-ready
-returns-clause-ready g c =
+pub returns : goal.returns
+returns g c =
     let o = c.args.domain.now.origin in
     let h = host g.D.Client.meaning g.D.Within.place g.D.Within.part in
     let l = lies h o in let s = c.args.state.now in let w = c.args.writer.now in let t = w.token in let key : ℕ = c.args.key in
@@ -114,6 +35,17 @@ returns-clause-ready g c =
     let planned = c.plan_for-plan.ensures.plan p r.reflects in
     let made = c.remove_by-reply.ensures.made r planned in
     let w1 = c.remove_by-reply.new.writer in let s1 = c.remove_by-reply.new.state in
-    let told = c.tally-updates-2.ensures.tally in
-    subst (λ v. Ready h o v s1) (sym c.set_tally.ensures)
-    (ready_next h g.met.D.Within.within o w w1 (opened (remove ∷ key ∷ []) made.steps) same writing.first made.made s s1 ready (answer_to l p (opening_of (remove ∷ key ∷ []))) made.over c.remove_by-reply.ensures.kept (c.tally-updates-2.result + 1) (ap (λ (x : ℕ). x + 1) told))
+    let counted = c.set_tally.ensures in let told = c.tally-updates-2.ensures.tally in
+    record {
+      same = search rules;
+      pending = ap (λ v. (state v.token).pending) counted ∙ made.made.same.0;
+      root = c.remove_by-reply.ensures.kept.0;
+      items = ap (λ v. unreturned (state v.token) v.waiting) counted ∙ (λ i. unreturned (record (state w1.token) { pending = made.made.same.0 i; dispatched = made.made.same.1 i }) ((ap (λ v. v.waiting) made.made.made) i));
+      table = ap (λ v. table v.token) counted ∙ ap (λ v. table v.token) made.made.made;
+      reply = made.reply_is ∙ (ap (remove_reply l p) (sym planned) ∙ sym (answers h g.met.D.Within.within o t same writing.part writing.first s r (removing key)));
+      log = ap (λ v. (knows h o v.token).log) counted ∙ (made.over.at.log ∙ ap (λ (x : Reply). (knows h o t).log ++ record { update = Del key; reply = x } ∷ []) (ap (remove_reply l p) planned ∙ sym made.reply_is));
+      steps = λ q is. subst (λ (x : WriterState). (ss : List Step) × RemoveSteps l x (plan_now l x key) ss × (c.set_tally.new.self.token ≡ adding t (opened (remove ∷ key ∷ []) ss))) (same_writer h g.met.D.Within.within o t s r q is)
+          (made.steps, subst (λ (z : Plan). RemoveSteps l p z made.steps) (sym planned) made.are, ap (λ v. v.token) counted ∙ ap (λ v. v.token) made.made.made);
+      ready = subst (λ v. Ready h o v s1) (sym counted)
+          (ready_next h g.met.D.Within.within o w w1 (opened (remove ∷ key ∷ []) made.steps) same writing.first made.made s s1 ready (answer_to l p (opening_of (remove ∷ key ∷ []))) made.over c.remove_by-reply.ensures.kept (c.tally-updates-2.result + 1) (ap (λ (x : ℕ). x + 1) told));
+    }

@@ -1,55 +1,25 @@
-use Rattle.std.proofs.Common.{◌≡◌, ℕ, ◌<◌, Bool, false, nat_le, inl, refl, ap, arith}
+use Rattle.std.proofs.Common.{◌≡◌, ℕ, ◌<◌, Bool, false, nat_le, arith}
 use Rattle.std.proofs.lemmas.Bool.Decides.{nat_tests}
-use Rattle.ck_epoch.specs.State.{base_of}
-use Rattle.ck_htlaw.specs.Host.{host, first, inner, lies}
-use Rattle.ck_htlaw.specs.Stages.{Insertion, empty}
-use Rattle.ck_htwrite.specs.declared.state.HtState.{HtState}
-use Rattle.ck_htwrite.specs.Writes.{counters_in}
-use Rattle.ck_htwrite.proofs.Growing.{adding_idle, roomy_now}
-use Rattle.ck_htwrite.proofs.Plans.{room, no_room, keys_few, tombstones_few, about_nothing, about_insert}
-use Rattle.ck_htwrite.proofs.Made.{done_grown, may_insert, made_insert, may_ask, made_full}
+use Rattle.ck_htlaw.specs.Host.{host}
+use Rattle.ck_htlaw.specs.Stages.{empty}
+use Rattle.ck_htwrite.proofs.Adding.{adds_empty, few_keys, few_tombstones, insert_full, inserted_now, may_ask_full, may_insert_now}
+use Rattle.ck_htwrite.proofs.Made.{done_grown}
 use Rattle.ck_htwrite.proofs.cases.add_empty.Goals as goal
 
 pub ask_root-requires-clause-due : goal.ask_root-requires-clause-due
 ask_root-requires-clause-due g c found =
-    let o = c.args.domain.now.origin in
-    let h = host g.D.Client.meaning g.D.Within.place g.D.Within.part in
-    let l = lies h o in let n = counters_in h o in let s = c.args.state.now in let w = c.args.writer.now in
-    let fl = base_of (inner h o) in let client = (inner h o).config.client in let fi = first h o in let opens = g.O.Opens.opens in
-    let r = c.requires.due.0 in let p = r.is_writer in let planned = c.requires.due.1 in
-    let pair : Insertion = record { key = c.args.key; number = c.args.value; to = c.args.at } in let key : ℕ = c.args.key in let value : ℕ = c.args.value in let at : ℕ = c.args.at in
-    let adding_is = adding_idle fl fi client p s r.reflects opens key value at c.requires.adds planned r.idles in
-    may_ask h o w w s s r opens (about_nothing fl fi client p s r.reflects opens empty pair adding_is (no_room fl fi client p s r.reflects c.if-state-ge-MOST.true)) found
+    let o = c.args.domain.now.origin in let h = host g.D.Client.meaning g.D.Within.place g.D.Within.part in let w = c.args.writer.now in let s = c.args.state.now in
+    let opens = g.O.Opens.opens in let key : ℕ = c.args.key in let value : ℕ = c.args.value in let at : ℕ = c.args.at in let r = c.requires.due.0 in
+    may_ask_full h o w s r opens key value at empty (adds_empty h o w s r opens key value at c.requires.adds c.requires.due.1) c.if-state-ge-MOST.true found
 
 pub returns-then-state-ge-MOST-clause-made : goal.returns-then-state-ge-MOST-clause-made
-returns-then-state-ge-MOST-clause-made g c r planned =
-    let o = c.args.domain.now.origin in
-    let h = host g.D.Client.meaning g.D.Within.place g.D.Within.part in
-    let l = lies h o in let n = counters_in h o in let s = c.args.state.now in let w = c.args.writer.now in
-    let fl = base_of (inner h o) in let client = (inner h o).config.client in let fi = first h o in let opens = g.O.Opens.opens in
-    let p = r.is_writer in
-    let pair : Insertion = record { key = c.args.key; number = c.args.value; to = c.args.at } in let key : ℕ = c.args.key in let value : ℕ = c.args.value in let at : ℕ = c.args.at in
-    let adding_is = adding_idle fl fi client p s r.reflects opens key value at c.requires.adds planned r.idles in
-    let full = no_room fl fi client p s r.reflects c.if-state-ge-MOST.true in
-    inl (made_full h o w c.ask_root.new.writer s s r opens (about_nothing fl fi client p s r.reflects opens empty pair adding_is full) full c.ask_root.result key value at c.ask_root.ensures.step refl, refl, refl)
+returns-then-state-ge-MOST-clause-made g c r planned = insert_full _ _ c.args.writer.now c.args.state.now r g.O.Opens.opens c.args.key c.args.value c.args.at c.requires.adds planned c.if-state-ge-MOST.true c.ask_root.result _ c.ask_root.ensures.step
 
 pub is_roomy-requires-clause-tombstones : goal.is_roomy-requires-clause-tombstones
-is_roomy-requires-clause-tombstones g c =
-    let o = c.args.domain.now.origin in
-    let h = host g.D.Client.meaning g.D.Within.place g.D.Within.part in
-    let l = lies h o in let n = counters_in h o in let s = c.args.state.now in let w = c.args.writer.now in
-    let fl = base_of (inner h o) in let client = (inner h o).config.client in let fi = first h o in let opens = g.O.Opens.opens in
-    let r = c.requires.due.0 in let p = r.is_writer in let planned = c.requires.due.1 in
-    tombstones_few fl fi client p s r.reflects
+is_roomy-requires-clause-tombstones g c = few_tombstones _ _ c.args.writer.now _ c.requires.due.0
 
 pub is_roomy-requires-clause-keys : goal.is_roomy-requires-clause-keys
-is_roomy-requires-clause-keys g c =
-    let o = c.args.domain.now.origin in
-    let h = host g.D.Client.meaning g.D.Within.place g.D.Within.part in
-    let l = lies h o in let n = counters_in h o in let s = c.args.state.now in let w = c.args.writer.now in
-    let fl = base_of (inner h o) in let client = (inner h o).config.client in let fi = first h o in let opens = g.O.Opens.opens in
-    let r = c.requires.due.0 in let p = r.is_writer in let planned = c.requires.due.1 in
-    keys_few fl fi client p s r.reflects
+is_roomy-requires-clause-keys g c = few_keys _ _ c.args.writer.now _ c.requires.due.0
 
 over_full : (b : Bool) (x y : ℕ) → b ≡ nat_le x y → b ≡ false → y < x
 over_full b x y e f = grind (arith, nat_tests)
@@ -62,41 +32,17 @@ add_grown-requires-clause-due g c = (c.requires.due.0, c.args.at, c.requires.due
 
 pub returns-then-not-is_roomy-clause-made : goal.returns-then-not-is_roomy-clause-made
 returns-then-not-is_roomy-clause-made g c r planned =
-    let o = c.args.domain.now.origin in
-    let h = host g.D.Client.meaning g.D.Within.place g.D.Within.part in
-    let l = lies h o in let n = counters_in h o in let s = c.args.state.now in let w = c.args.writer.now in
-    let fl = base_of (inner h o) in let client = (inner h o).config.client in let fi = first h o in let opens = g.O.Opens.opens in
-    let p = r.is_writer in
-    let pair : Insertion = record { key = c.args.key; number = c.args.value; to = c.args.at } in let key : ℕ = c.args.key in let value : ℕ = c.args.value in let at : ℕ = c.args.at in
-    done_grown h o p w s key value at opens c.add_grown.result c.add_grown.new.writer c.add_grown.new.state (c.add_grown.ensures.made r at planned)
+    let h = host g.D.Client.meaning g.D.Within.place g.D.Within.part in let made = c.add_grown in
+    done_grown h c.args.domain.now.origin r.is_writer c.args.writer.now c.args.state.now c.args.key c.args.value c.args.at g.O.Opens.opens made.result made.new.writer made.new.state (made.ensures.made r c.args.at planned)
 
 pub insert-requires-clause-due : goal.insert-requires-clause-due
 insert-requires-clause-due g c =
-    let o = c.args.domain.now.origin in
-    let h = host g.D.Client.meaning g.D.Within.place g.D.Within.part in
-    let l = lies h o in let n = counters_in h o in let s = c.args.state.now in let w = c.args.writer.now in
-    let fl = base_of (inner h o) in let client = (inner h o).config.client in let fi = first h o in let opens = g.O.Opens.opens in
-    let r = c.requires.due.0 in let p = r.is_writer in let planned = c.requires.due.1 in
-    let pair : Insertion = record { key = c.args.key; number = c.args.value; to = c.args.at } in let key : ℕ = c.args.key in let value : ℕ = c.args.value in let at : ℕ = c.args.at in
-    let adding_is = adding_idle fl fi client p s r.reflects opens key value at c.requires.adds planned r.idles in
-    may_insert h o w w s s r opens key value at c.requires.slot (about_insert fl fi client p s r.reflects opens pair adding_is (room fl fi client p s r.reflects (let z = c.if-state-ge-MOST.false in omega arith)) c.is_roomy.result c.is_roomy.ensures c.if-not-is_roomy.false)
+    may_insert_now _ _ c.args.writer.now c.args.state.now c.requires.due.0 g.O.Opens.opens c.args.key c.args.value c.args.at c.requires.adds c.requires.due.1 c.requires.slot (let z = c.if-state-ge-MOST.false in omega arith) c.is_roomy.result c.is_roomy.ensures c.if-not-is_roomy.false
 
 pub insert-requires-clause-shape : goal.insert-requires-clause-shape
 insert-requires-clause-shape g c = c.requires.due.0.reflects.mirrors.shape
 
 pub returns-clause-made : goal.returns-clause-made
 returns-clause-made g c r planned =
-    let o = c.args.domain.now.origin in
-    let h = host g.D.Client.meaning g.D.Within.place g.D.Within.part in
-    let l = lies h o in let n = counters_in h o in let s = c.args.state.now in let w = c.args.writer.now in
-    let fl = base_of (inner h o) in let client = (inner h o).config.client in let fi = first h o in let opens = g.O.Opens.opens in
-    let p = r.is_writer in
-    let pair : Insertion = record { key = c.args.key; number = c.args.value; to = c.args.at } in let key : ℕ = c.args.key in let value : ℕ = c.args.value in let at : ℕ = c.args.at in
-    let adding_is = adding_idle fl fi client p s r.reflects opens key value at c.requires.adds planned r.idles in
-    let fits = room fl fi client p s r.reflects (let z = c.if-state-ge-MOST.false in omega arith) in
-    let s1 = c.insert.new.state in let is = c.insert.ensures.state in
-    inl (
-      made_insert h o w c.insert.new.writer s s1 r opens key value at c.requires.slot (about_insert fl fi client p s r.reflects opens pair adding_is fits c.is_roomy.result c.is_roomy.ensures c.if-not-is_roomy.false) c.requires.was fits (roomy_now fl fi client p s r.reflects c.is_roomy.result c.is_roomy.ensures c.if-not-is_roomy.false) c.insert.ensures.steps is,
-      ap (λ (x : HtState). x.root) is,
-      ap (λ (x : HtState). x.arena) is,
-    )
+    inserted_now _ _ c.args.writer.now c.args.state.now r g.O.Opens.opens c.args.key c.args.value c.args.at c.requires.adds planned c.requires.slot (let z = c.if-state-ge-MOST.false in omega arith) c.is_roomy.result c.is_roomy.ensures c.if-not-is_roomy.false
+    c.requires.was c.insert.new.writer c.insert.new.state c.insert.ensures.steps c.insert.ensures.state

@@ -1,133 +1,58 @@
-use Rattle.std.proofs.Common.{ℕ, ◌^◌, List, inl, refl, sym, ap, ◌∙◌, subst, arith}
-use Rattle.std.specs.Prelude.{MatchResult}
-use Rattle.ck_history.specs.declared.update.Reply.TheVariants.{Was}
-use Rattle.ck_epoch.specs.State.{base_of}
-use Rattle.ck_htplan.specs.declared.cases.Plan.{Plan}
-use Rattle.ck_htplan.specs.declared.cases.Plan.TheVariants.{Reuse, Stand, Move}
-use Rattle.ck_htplan.specs.Region.{view_of}
-use Rattle.ck_htlaw.specs.Host.{host, first, inner, lies}
-use Rattle.ck_htlaw.specs.Layout.{log_of}
+use Rattle.std.proofs.Common.{ℕ, refl, sym, ◌∙◌, subst}
+use Rattle.ck_htplan.specs.declared.cases.Plan.TheVariants.{Empty, Reuse}
+use Rattle.ck_htlaw.specs.Host.{host, lies}
 use Rattle.ck_htlaw.specs.Actions.{set_reply}
-use Rattle.ck_htwrite.specs.declared.state.HtState.{HtState}
 use Rattle.ck_htwrite.specs.Rebuild.{GoesOnAfter}
-use Rattle.ck_htwrite.specs.Updates.{AddsFresh, IsDone, IsIn, HasStates, IsMade, IsNeeded, SetSteps}
-use Rattle.ck_htwrite.specs.Writes.{counters_in}
-use Rattle.ck_htwrite.proofs.Slots.{item_in}
+use Rattle.ck_htwrite.specs.Updates.{AddsFresh, SetSteps}
 use Rattle.ck_htwrite.proofs.Plans.{adds_set, set_is}
-use Rattle.ck_htwrite.proofs.Made.{may_stand, made_stand, may_move, made_move, value_is}
+use Rattle.ck_htwrite.proofs.ByPlan.{done_by, done_or_needed, may_set_move, may_set_stand, set_move, set_stand, value_in_move, value_in_stand}
 use Rattle.ck_htwrite.proofs.cases.set_by.Goals as goal
 
 pub add_empty-requires-clause-goes_on : goal.add_empty-requires-clause-goes_on
-add_empty-requires-clause-goes_on g c =
-    let o = c.args.domain.now.origin in
-    let h = host g.D.Client.meaning g.D.Within.place g.D.Within.part in
-    let l = lies h o in let n = counters_in h o in let s = c.args.state.now in let w = c.args.writer.now in
-    let fl = base_of (inner h o) in let client = (inner h o).config.client in let fi = first h o in let opens = g.O.Opens.opens in
-    subst (λ (os : List ℕ). GoesOnAfter l os) (sym c.requires.name) (λ q. refl)
+add_empty-requires-clause-goes_on g c = subst (GoesOnAfter (lies (host g.D.Client.meaning g.D.Within.place g.D.Within.part) c.args.domain.now.origin)) (sym c.requires.name) (λ q. refl)
 
 pub add_empty-requires-clause-adds : goal.add_empty-requires-clause-adds
-add_empty-requires-clause-adds g c = subst (λ (os : List ℕ). AddsFresh os c.args.key c.args.value) (sym c.requires.name) (adds_set c.args.key c.args.value)
+add_empty-requires-clause-adds g c = subst (λ os. AddsFresh os c.args.key c.args.value) (sym c.requires.name) (adds_set c.args.key c.args.value)
 
 pub add_empty-requires-clause-due : goal.add_empty-requires-clause-due
 add_empty-requires-clause-due g c = (c.requires.due.0, c.requires.due.1 ∙ c.in-Empty.is)
 
 pub returns-in-Empty-clause-made : goal.returns-in-Empty-clause-made
 returns-in-Empty-clause-made g c r is =
-    let o = c.args.domain.now.origin in
-    let h = host g.D.Client.meaning g.D.Within.place g.D.Within.part in
-    let l = lies h o in let n = counters_in h o in let s = c.args.state.now in let w = c.args.writer.now in
-    let fl = base_of (inner h o) in let client = (inner h o).config.client in let fi = first h o in let opens = g.O.Opens.opens in
-    let p = r.is_writer in
-    let key : ℕ = c.args.key in let value : ℕ = c.args.value in
-    subst (λ (z : Plan). MatchResult c.add_empty.result (λ reply. IsDone h o p (set_reply l p z) (SetSteps l p key value z) z opens key value w reply c.add_empty.new.writer s c.add_empty.new.state) (λ need. IsNeeded h o p z s need)) (sym c.in-Empty.is) (c.add_empty.ensures.made r (is ∙ c.in-Empty.is))
+    let o = c.args.domain.now.origin in let h = host g.D.Client.meaning g.D.Within.place g.D.Within.part in let w = c.args.writer.now in let s = c.args.state.now in
+    let opens = g.O.Opens.opens in let key : ℕ = c.args.key in let value : ℕ = c.args.value in let plan = c.args.plan in
+    done_or_needed h o w s r opens key value plan (Empty c.in-Empty.at) c.in-Empty.is (set_reply (lies h o) r.is_writer) (SetSteps (lies h o) r.is_writer key value) _ _ _ (c.add_empty.ensures.made r (is ∙ c.in-Empty.is))
 
 pub add_reused-requires-clause-due : goal.add_reused-requires-clause-due
 add_reused-requires-clause-due g c =
-    let o = c.args.domain.now.origin in
-    let h = host g.D.Client.meaning g.D.Within.place g.D.Within.part in
-    let l = lies h o in let n = counters_in h o in let s = c.args.state.now in let w = c.args.writer.now in
-    let fl = base_of (inner h o) in let client = (inner h o).config.client in let fi = first h o in let opens = g.O.Opens.opens in
-    let r = c.requires.due.0 in let p = r.is_writer in
-    let key : ℕ = c.args.key in let value : ℕ = c.args.value in
-    (r, (set_is l p r.idles key value (Reuse c.in-Reuse.at) (c.requires.due.1 ∙ c.in-Reuse.is) opens c.requires.name))
+    let r = c.requires.due.0 in
+    (r, set_is (lies (host g.D.Client.meaning g.D.Within.place g.D.Within.part) c.args.domain.now.origin) r.is_writer r.idles c.args.key c.args.value (Reuse c.in-Reuse.at) (c.requires.due.1 ∙ c.in-Reuse.is) g.O.Opens.opens c.requires.name)
 
 pub returns-in-Reuse-clause-made : goal.returns-in-Reuse-clause-made
 returns-in-Reuse-clause-made g c r is =
-    let o = c.args.domain.now.origin in
-    let h = host g.D.Client.meaning g.D.Within.place g.D.Within.part in
-    let l = lies h o in let n = counters_in h o in let s = c.args.state.now in let w = c.args.writer.now in
-    let fl = base_of (inner h o) in let client = (inner h o).config.client in let fi = first h o in let opens = g.O.Opens.opens in
-    let p = r.is_writer in
-    let key : ℕ = c.args.key in let value : ℕ = c.args.value in
-    inl (subst (λ (z : Plan). IsMade h o p (set_reply l p z) (SetSteps l p key value z) opens w c.add_reused.result c.add_reused.new.writer c.add_reused.new.state) (sym c.in-Reuse.is) (c.add_reused.ensures.made r (set_is l p r.idles key value (Reuse c.in-Reuse.at) (is ∙ c.in-Reuse.is) opens c.requires.name)), c.add_reused.ensures.kept.0, c.add_reused.ensures.kept.1)
+    let o = c.args.domain.now.origin in let h = host g.D.Client.meaning g.D.Within.place g.D.Within.part in let w = c.args.writer.now in let s = c.args.state.now in
+    let opens = g.O.Opens.opens in let key : ℕ = c.args.key in let value : ℕ = c.args.value in let plan = c.args.plan in
+    done_by h o w s r opens key value plan (Reuse c.in-Reuse.at) c.in-Reuse.is (set_reply (lies h o) r.is_writer) (SetSteps (lies h o) r.is_writer key value) _ _ _
+    (c.add_reused.ensures.made r (set_is (lies h o) r.is_writer r.idles key value (Reuse c.in-Reuse.at) (is ∙ c.in-Reuse.is) opens c.requires.name)) c.add_reused.ensures.kept
 
 pub value_at-was-requires : goal.value_at-was-requires
-value_at-was-requires g c =
-    let o = c.args.domain.now.origin in
-    let h = host g.D.Client.meaning g.D.Within.place g.D.Within.part in
-    let l = lies h o in let n = counters_in h o in let s = c.args.state.now in let w = c.args.writer.now in
-    let fl = base_of (inner h o) in let client = (inner h o).config.client in let fi = first h o in let opens = g.O.Opens.opens in
-    let r = c.requires.due.0 in let p = r.is_writer in
-    record { slot = item_in n s r.reflects.mirrors.shape c.in-Stand.at 3 (subst (IsIn (2 ^ log_of s.root)) c.in-Stand.is c.requires.inside) (omega arith) }
+value_at-was-requires g c = record { slot = value_in_stand _ _ c.args.writer.now _ c.requires.due.0 g.O.Opens.opens _ c.args.value _ c.requires.due.1 c.requires.inside c.requires.states _ c.in-Stand.is }
 
 pub put_word-requires-clause-due : goal.put_word-requires-clause-due
 put_word-requires-clause-due g c =
-    let o = c.args.domain.now.origin in
-    let h = host g.D.Client.meaning g.D.Within.place g.D.Within.part in
-    let l = lies h o in let n = counters_in h o in let s = c.args.state.now in let w = c.args.writer.now in
-    let fl = base_of (inner h o) in let client = (inner h o).config.client in let fi = first h o in let opens = g.O.Opens.opens in
-    let r = c.requires.due.0 in let p = r.is_writer in
-    let key : ℕ = c.args.key in let value : ℕ = c.args.value in
-    may_stand h o w w s s r opens key value c.in-Stand.at (subst (IsIn (2 ^ log_of s.root)) c.in-Stand.is c.requires.inside) (set_is l p r.idles key value (Stand c.in-Stand.at) (c.requires.due.1 ∙ c.in-Stand.is) opens c.requires.name) (subst (HasStates (view_of s.words.items)) c.in-Stand.is c.requires.states)
+    may_set_stand _ _ c.args.writer.now c.args.state.now c.requires.due.0 g.O.Opens.opens c.args.key c.args.value c.args.plan c.requires.due.1 c.requires.inside c.requires.states c.in-Stand.at c.in-Stand.is c.requires.name
 
 pub returns-in-Stand-clause-made : goal.returns-in-Stand-clause-made
 returns-in-Stand-clause-made g c r is =
-    let o = c.args.domain.now.origin in
-    let h = host g.D.Client.meaning g.D.Within.place g.D.Within.part in
-    let l = lies h o in let n = counters_in h o in let s = c.args.state.now in let w = c.args.writer.now in
-    let fl = base_of (inner h o) in let client = (inner h o).config.client in let fi = first h o in let opens = g.O.Opens.opens in
-    let p = r.is_writer in
-    let key : ℕ = c.args.key in let value : ℕ = c.args.value in
-    let few = (subst (IsIn (2 ^ log_of s.root)) c.in-Stand.is c.requires.inside) in let full = (subst (HasStates (view_of s.words.items)) c.in-Stand.is c.requires.states) in let s1 = c.put_word.new.state in let is1 = c.put_word.ensures.state in
-    inl (
-      subst (λ (z : Plan). IsMade h o p (set_reply l p z) (SetSteps l p key value z) opens w (Was c.value_at-was.result) c.put_word.new.writer s1) (sym c.in-Stand.is)
-          (made_stand h o w c.put_word.new.writer s s1 r opens key value c.in-Stand.at few (set_is l p r.idles key value (Stand c.in-Stand.at) (is ∙ c.in-Stand.is) opens c.requires.name) full _ _ (ap Was (value_is h o w w s s r opens c.in-Stand.at few full c.value_at-was.result c.value_at-was.ensures)) c.put_word.ensures.step is1),
-      ap (λ (x : HtState). x.root) is1,
-      ap (λ (x : HtState). x.arena) is1,
-    )
+    set_stand _ _ c.args.writer.now c.args.state.now r g.O.Opens.opens c.args.key c.args.value c.args.plan is c.requires.inside c.requires.states c.in-Stand.at c.in-Stand.is c.requires.name c.value_at-was.result c.value_at-was.ensures _ _ c.put_word.ensures.step c.put_word.ensures.state
 
 pub value_at-was-requires-in-Move : goal.value_at-was-requires-in-Move
-value_at-was-requires-in-Move g c =
-    let o = c.args.domain.now.origin in
-    let h = host g.D.Client.meaning g.D.Within.place g.D.Within.part in
-    let l = lies h o in let n = counters_in h o in let s = c.args.state.now in let w = c.args.writer.now in
-    let fl = base_of (inner h o) in let client = (inner h o).config.client in let fi = first h o in let opens = g.O.Opens.opens in
-    let r = c.requires.due.0 in let p = r.is_writer in
-    record { slot = item_in n s r.reflects.mirrors.shape c.in-Move.from 3 (subst (IsIn (2 ^ log_of s.root)) c.in-Move.is c.requires.inside).1 (omega arith) }
+value_at-was-requires-in-Move g c = record { slot = value_in_move _ _ c.args.writer.now _ c.requires.due.0 g.O.Opens.opens _ c.args.value _ c.requires.due.1 c.requires.inside c.requires.states _ _ c.in-Move.is }
 
 pub move_key-requires-clause-due : goal.move_key-requires-clause-due
 move_key-requires-clause-due g c =
-    let o = c.args.domain.now.origin in
-    let h = host g.D.Client.meaning g.D.Within.place g.D.Within.part in
-    let l = lies h o in let n = counters_in h o in let s = c.args.state.now in let w = c.args.writer.now in
-    let fl = base_of (inner h o) in let client = (inner h o).config.client in let fi = first h o in let opens = g.O.Opens.opens in
-    let r = c.requires.due.0 in let p = r.is_writer in
-    let key : ℕ = c.args.key in let value : ℕ = c.args.value in
-    let few = (subst (IsIn (2 ^ log_of s.root)) c.in-Move.is c.requires.inside) in let full = (subst (HasStates (view_of s.words.items)) c.in-Move.is c.requires.states) in
-    may_move h o w w s s r opens key value c.in-Move.to c.in-Move.from few.0 few.1 (set_is l p r.idles key value (Move c.in-Move.to c.in-Move.from) (c.requires.due.1 ∙ c.in-Move.is) opens c.requires.name) full.0 full.1
+    may_set_move _ _ c.args.writer.now c.args.state.now c.requires.due.0 g.O.Opens.opens c.args.key c.args.value c.args.plan c.requires.due.1 c.requires.inside c.requires.states c.in-Move.to c.in-Move.from c.in-Move.is c.requires.name
 
 pub returns-in-Move-clause-made : goal.returns-in-Move-clause-made
 returns-in-Move-clause-made g c r is =
-    let o = c.args.domain.now.origin in
-    let h = host g.D.Client.meaning g.D.Within.place g.D.Within.part in
-    let l = lies h o in let n = counters_in h o in let s = c.args.state.now in let w = c.args.writer.now in
-    let fl = base_of (inner h o) in let client = (inner h o).config.client in let fi = first h o in let opens = g.O.Opens.opens in
-    let p = r.is_writer in
-    let key : ℕ = c.args.key in let value : ℕ = c.args.value in
-    let few = (subst (IsIn (2 ^ log_of s.root)) c.in-Move.is c.requires.inside) in let full = (subst (HasStates (view_of s.words.items)) c.in-Move.is c.requires.states) in let s1 = c.move_key.new.state in let is1 = c.move_key.ensures.state in
-    inl (
-      subst (λ (z : Plan). IsMade h o p (set_reply l p z) (SetSteps l p key value z) opens w (Was c.value_at-was-in-Move.result) c.move_key.new.writer s1) (sym c.in-Move.is)
-          (made_move h o w c.move_key.new.writer s s1 r opens key value c.in-Move.to c.in-Move.from few.0 few.1 (set_is l p r.idles key value (Move c.in-Move.to c.in-Move.from) (is ∙ c.in-Move.is) opens c.requires.name) full.0 full.1 _ _ (ap Was (value_is h o w w s s r opens c.in-Move.from few.1 full.1 c.value_at-was-in-Move.result c.value_at-was-in-Move.ensures)) c.move_key.ensures.steps is1),
-      ap (λ (x : HtState). x.root) is1,
-      ap (λ (x : HtState). x.arena) is1,
-    )
+    set_move _ _ c.args.writer.now c.args.state.now r g.O.Opens.opens c.args.key c.args.value c.args.plan is c.requires.inside c.requires.states c.in-Move.to c.in-Move.from c.in-Move.is c.requires.name c.value_at-was-in-Move.result c.value_at-was-in-Move.ensures _ _ c.move_key.ensures.steps c.move_key.ensures.state

@@ -3,7 +3,8 @@ use Rattle.ck_run.specs.Tokens.{table}
 use Rattle.ck_htlaw.specs.Host.{host}
 use Rattle.ck_htlaw.specs.Known.{knows}
 use Rattle.ck_epoch.specs.State.{state}
-use Rattle.ck_htwrite.specs.Arena.{MayAddRegion, unreturned}
+use Rattle.ck_arena.specs.Arena.{unreturned}
+use Rattle.ck_htwrite.specs.Arena.{MayAddRegion}
 use Rattle.ck_htwrite.specs.State.{Ready}
 use Rattle.ck_htwrite.specs.Writes.{counters_in}
 use Rattle.ck_htwrite.proofs.Between.{once}

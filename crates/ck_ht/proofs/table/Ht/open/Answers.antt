@@ -1,20 +1,26 @@
-use Rattle.std.proofs.Common.{◌≡◌, ℕ, ◌+◌, ◌*◌, [], replicate, ap, ◌∙◌, sym, subst}
+use Rattle.std.proofs.Common.{◌≡◌, ℕ, ◌+◌, ◌*◌, ◌^◌, ◌≤◌, [], replicate, ap, ◌∙◌, sym, subst}
 use Rattle.ck_run.specs.Tokens.{origin}
 use Rattle.ck_epoch.specs.State.{Origin, Token, state}
 use Rattle.ck_signal.specs.declared.signals.Signals.{Signals}
 use Rattle.ck_htlaw.specs.declared.client.HtClient.{HtClient}
-use Rattle.ck_htlaw.specs.Layout.{arena, counters_of, IsTableItem}
+use Rattle.ck_htlaw.specs.Layout.{arena, arena_words, counters_of, log_of, IsTableItem}
+use Rattle.ck_htlaw.specs.Known.{knows}
+use Rattle.ck_htlaw.specs.Linearized.{map_after}
 use Rattle.ck_htlaw.specs.Reached.{with_signals}
+use Rattle.ck_htwrite.specs.Entries.{HasKeys}
 use Rattle.std.proofs.lemmas.List.Elements.{All-nil}
 use Rattle.ck_epoch.specs.declared.item.Retired.{Retired}
 use Rattle.ck_epoch.specs.Ends.{Writer}
-use Rattle.ck_htwrite.specs.Arena.{AreTableItems, IsKept, unreturned}
+use Rattle.ck_arena.specs.Arena.{unreturned}
+use Rattle.ck_htwrite.specs.Arena.{AreTableItems, IsKept}
 use Rattle.ck_htwrite.specs.Writes.{counters_in}
 use Rattle.ck_ht.specs.Ends.{IsWriterReady}
 use Rattle.ck_htwrite.specs.State.{IsShaped}
 use Rattle.ck_htwrite.proofs.Opened.{opened_ready}
 use Rattle.ck_ht.proofs.AtOpening.{all_made, all_ready, none_done}
+use Rattle.ck_ht.proofs.Keyed.{none_keyed}
 use Rattle.ck_ht.proofs.Settling.{is_within}
+use Rattle.ck_ht.proofs.Sizes.{few_counters, half_at_opening}
 use Rattle.ck_ht.proofs.table.Ht.open.Goals as goal
 
 pub invariant_of-result-2 : goal.invariant_of-result-2
@@ -25,7 +31,9 @@ invariant_of-result-2 g c =
     subst (λ (o : Origin (Signals HtClient)). IsWriterReady o d.writer s.state) (sym (ap (λ (t : Token (Signals HtClient)). origin t) is)) record {
       own = subst (λ (w : Writer (Signals HtClient) g.row.F.Denot). AreTableItems (counters_in with_signals d.domain.origin) 0 (unreturned (state w.token) w.waiting)) (sym d.ensures.writer) (All-nil (λ (k : Retired). IsTableItem (counters_in with_signals d.domain.origin) 0 k.item));
       given = ap (λ w. w.waiting) d.ensures.writer;
-      room = ap (λ w. w.room) d.ensures.writer;
+      room = subst (λ (x : ℕ × ℕ). x.0 ≤ x.1) (λ i. (many i, sym (ap (λ w. w.room) d.ensures.writer) i)) (few_counters c.args.client.arena_log c.requires.most);
+      half = subst (λ (x : ℕ × ℕ). 2 * 2 ^ (log_of x.0 + 2) ≤ arena_words x.1) (λ i. (sym (ap (λ x. x.root) s.ensures.state) i, many i)) (half_at_opening c.args.client c.requires.least);
+      keys = subst (λ (t : Token (Signals HtClient)). HasKeys (map_after (knows with_signals d.domain.origin t).log)) (sym is) none_keyed;
       ready = (opened_ready with_signals is_within d.domain d.ensures.words.1 d.writer is (ap (λ w. w.waiting) d.ensures.writer) (ap (λ w. w.tally) d.ensures.writer) s.state
           (subst (λ (n : ℕ). IsShaped n s.state) many s.ensures.shape) (ap (λ x. x.root) s.ensures.state ∙ ap (λ (n : ℕ). 32 * arena n + 3) many) (ap (λ x. x.keys) s.ensures.state) (ap (λ x. x.tombstones) s.ensures.state)
           s.ensures.words (s.ensures.counters ∙ ap (λ (n : ℕ). replicate n 0) many)

@@ -1,4 +1,4 @@
-use Rattle.std.proofs.Common.{◌≡◌, List, [], ◌∷◌, ◌++◌, sym, ap, ◌∙◌, subst, arith}
+use Rattle.std.proofs.Common.{◌≡◌, ℕ, ◌+◌, ◌*◌, ◌^◌, ◌≤◌, List, [], ◌∷◌, ◌++◌, sym, ap, ◌∙◌, subst, arith}
 use Rattle.std.specs.Ordering.{nat_cmp}
 use Rattle.ck_run.specs.declared.account.Step.{Step}
 use Rattle.ck_run.specs.Tokens.{Table, origin, adding}
@@ -14,15 +14,19 @@ use Rattle.ck_htlaw.specs.Actions.{most, plan_now}
 use Rattle.ck_htlaw.specs.Calls.{remove}
 use Rattle.ck_htlaw.specs.Host.{lies}
 use Rattle.ck_htlaw.specs.Known.{knows}
+use Rattle.ck_htlaw.specs.Layout.{arena_words, log_of}
 use Rattle.ck_htlaw.specs.Linearized.{map_after}
 use Rattle.ck_htlaw.specs.Reached.{with_signals}
 use Rattle.ck_htlaw.specs.Table.{WriterState}
-use Rattle.ck_htwrite.specs.Arena.{AreTableItems, unreturned}
+use Rattle.ck_arena.specs.Arena.{unreturned}
+use Rattle.ck_htwrite.specs.Arena.{AreTableItems}
+use Rattle.ck_htwrite.specs.Entries.{HasKeys}
 use Rattle.ck_htwrite.specs.State.{Ready}
 use Rattle.ck_htwrite.specs.Updates.{RemoveSteps}
 use Rattle.ck_htwrite.specs.Writes.{WriterIs, counters_in, opened}
 use Rattle.ck_ht.specs.Ends.{HtWriter, IsWriterReady}
 use Rattle.ck_ht.specs.Events.{hand_events}
+use Rattle.ck_ht.proofs.Keyed.{keyed_next}
 use Rattle.ck_ht.proofs.UpdateEvents.{none_named, opened_quiet, updates_are_events}
 use Rattle.ck_ht.proofs.table.Ht.remove.Goals as goal
 
@@ -40,7 +44,9 @@ invariant_of-w g c =
       ready = c.remove.ensures.ready;
       own = subst (AreTableItems (counters_in with_signals c.self.inside.domain.origin) 0) (sym c.remove.ensures.items) (subst (λ (o : Origin (Signals HtClient)). AreTableItems (counters_in with_signals o) 0 (unreturned (state w.token) w.waiting)) from c.w.invariant.own);
       given = ap (λ v. v.waiting) c.remove.ensures.same ∙ c.w.invariant.given;
-      room = ap (λ v. v.room) c.remove.ensures.same ∙ c.w.invariant.room;
+      room = subst (λ (k : ℕ). counters_in with_signals c.self.inside.domain.origin ≤ k) (sym (ap (λ v. v.room) c.remove.ensures.same)) (subst (λ (o : Origin (Signals HtClient)). counters_in with_signals o ≤ w.room) from c.w.invariant.room);
+      half = subst (λ (x : Origin (Signals HtClient) × ℕ). 2 * 2 ^ (log_of x.1 + 2) ≤ arena_words (counters_in with_signals x.0)) (λ i. (from i, sym c.remove.ensures.root i)) c.w.invariant.half;
+      keys = keyed_next (knows with_signals c.self.inside.domain.origin w.token).log (knows with_signals c.self.inside.domain.origin c.remove.new.writer.token).log (record { update = Del c.args.key; reply = c.remove.result }) c.remove.ensures.log tt (subst (λ (o : Origin (Signals HtClient)). HasKeys (map_after (knows with_signals o w.token).log)) from c.w.invariant.keys);
     }
 
 pub returns-clause-reply : goal.returns-clause-reply

@@ -1,0 +1,5 @@
+pub mod Giving
+pub mod Backs
+pub mod Taking
+pub mod Ranges
+pub mod Few

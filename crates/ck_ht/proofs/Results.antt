@@ -1,0 +1,65 @@
+-- What an update says of the table and the writer that its caller sees.
+use Rattle.std.proofs.Common.{◌≡◌, ℕ, ◌+◌, ◌≤◌, [], ◌∷◌, ◌++◌, length, sym, ap, ◌∙◌, subst, arith}
+use Rattle.std.specs.Prelude.{IfOk, MatchResult}
+use Rattle.std.specs.declared.result.Result.{Result}
+use Rattle.std.specs.declared.result.Result.TheVariants.{Ok, Err}
+use Rattle.std.specs.Ordering.{nat_cmp}
+use Rattle.ck_run.specs.Tokens.{Table}
+use Rattle.ck_epoch.specs.declared.about.About.{About}
+use Rattle.ck_epoch.specs.State.{state}
+use Rattle.ck_epoch.specs.Ends.{Writer}
+use Rattle.ck_signal.specs.declared.signals.Signals.{Signals}
+use Rattle.ck_history.specs.declared.log.Busy.{Busy}
+use Rattle.ck_history.specs.declared.update.Reply.{Reply}
+use Rattle.ck_history.specs.declared.update.Update.{Update}
+use Rattle.ck_history.specs.Map.{step}
+use Rattle.ck_htlaw.specs.declared.client.HtClient.{HtClient}
+use Rattle.ck_htlaw.specs.Actions.{most}
+use Rattle.ck_htlaw.specs.Known.{knows}
+use Rattle.ck_htlaw.specs.Linearized.{map_after}
+use Rattle.ck_htlaw.specs.Reached.{with_signals}
+use Rattle.ck_htlaw.specs.Table.{WriterState}
+use Rattle.ck_htwrite.specs.declared.state.HtState.{HtState}
+use Rattle.ck_htwrite.specs.Writes.{WriterIs}
+use Rattle.ck_ht.specs.Ends.{HtWriter}
+use Rattle.ck_ht.specs.Room.{HasRoomFor}
+use Rattle.ck_ht.specs.Updating.{IsBusy, IsUpdated, MakesUpdate}
+
+-- a table that was made has room for so many keys
+pub roomy : {X E : Type 0} (r : Result X E) (f : X → HtClient) (seed log keys : ℕ) → IfOk r (λ x. f x ≡ record { seed = seed; arena_log = log }) → HasRoomFor log keys → IfOk r (λ x. HasRoomFor (f x).arena_log keys)
+roomy (Ok x) f seed log keys is room = subst (λ (k : ℕ). HasRoomFor k keys) (sym (ap (λ (c : HtClient). c.arena_log) is)) room
+roomy (Err e) f seed log keys is room = tt
+
+module _ (F : Type 0) (u : Update ℕ) (r : Result Reply Busy) (v : Writer (Signals HtClient) F) (s : HtState) where
+  -- what an update did, from this table and these lists on
+  abbrev pub Does : Table (About (Signals HtClient)) → HtWriter F → Type 0
+  Does d w = MatchResult r (λ reply. IsUpdated d.origin u w.writer w.state reply v s) (λ b. IsBusy d.origin u w.writer w.state b v s)
+
+  pub outside : (d e : Table (About (Signals HtClient))) (w x : HtWriter F) → d ≡ e → w ≡ x → Does d w → Does e x
+  outside d e w x same alike = subst (λ (y : Table (About (Signals HtClient)) × HtWriter F). Does y.0 y.1) (λ i. (same i, alike i))
+
+-- by its answer
+module _ (F : Type 0) (u : Update ℕ) (d : Table (About (Signals HtClient))) (w : HtWriter F) (v : Writer (Signals HtClient) F) (s : HtState) where
+  pub same_of : (r : Result Reply Busy) → Does F u r v s d w → v ≡ record w.writer { token = v.token; calls = v.calls; tally = v.tally }
+  same_of (Ok x) h = h.same ∙ (λ i. record w.writer { token = v.token; calls = v.calls; tally = (sym h.same i).tally })
+  same_of (Err b) h = h.same ∙ (λ i. record w.writer { token = v.token; calls = (sym h.same i).calls; tally = (sym h.same i).tally })
+
+  pub tally_of : (r : Result Reply Busy) → Does F u r v s d w → MatchResult r (λ x. v.tally ≡ w.writer.tally + 1) (λ b. v.tally ≡ w.writer.tally)
+  tally_of (Ok x) h = ap (λ (y : Writer (Signals HtClient) F). y.tally) h.same
+  tally_of (Err b) h = ap (λ (y : Writer (Signals HtClient) F). y.tally) h.same
+
+  pub reply_of : (r : Result Reply Busy) → Does F u r v s d w → IfOk r (λ x. x ≡ (step nat_cmp most (map_after (knows with_signals d.origin w.writer.token).log) u).1)
+  reply_of (Ok x) h = h.reply_is
+  reply_of (Err b) h = tt
+
+  pub log_of : (r : Result Reply Busy) → Does F u r v s d w → MatchResult r (λ x. (knows with_signals d.origin v.token).log ≡ (knows with_signals d.origin w.writer.token).log ++ record { update = u; reply = x } ∷ []) (λ b. (knows with_signals d.origin v.token).log ≡ (knows with_signals d.origin w.writer.token).log)
+  log_of (Ok x) h = h.log
+  log_of (Err b) h = h.log
+
+  pub steps_of : (r : Result Reply Busy) → Does F u r v s d w → IfOk r (λ x. (p : WriterState) → WriterIs with_signals d.origin w.writer.token p → MakesUpdate d.origin u p w.writer.token v.token)
+  steps_of (Ok x) h = h.steps
+  steps_of (Err b) h = tt
+
+  pub pending_of : (r : Result Reply Busy) → Does F u r v s d w → length (state v.token).pending ≤ length (state w.writer.token).pending + 1
+  pending_of (Ok x) h = h.pending
+  pending_of (Err b) h = let few = h.fewer in omega arith

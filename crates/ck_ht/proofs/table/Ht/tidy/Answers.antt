@@ -1,0 +1,28 @@
+use Rattle.std.proofs.Common.{true, sym, ap, subst}
+use Rattle.ck_epoch.specs.Ends.{Writer}
+use Rattle.ck_epoch.specs.Lists.{Answers}
+use Rattle.ck_signal.specs.declared.signals.Signals.{Signals}
+use Rattle.ck_history.specs.declared.update.Update.TheVariants.{Tidy}
+use Rattle.ck_htlaw.specs.declared.client.HtClient.{HtClient}
+use Rattle.ck_htlaw.specs.Client.{home_of}
+use Rattle.ck_ht.specs.Ends.{HtWriter}
+use Rattle.ck_ht.proofs.Results.{log_of, outside, pending_of, same_of, steps_of, tally_of}
+use Rattle.ck_ht.proofs.table.Ht.tidy.Goals as goal
+
+pub apply-requires-clause-handler : goal.apply-requires-clause-handler
+apply-requires-clause-handler g c = subst (λ (v : Writer (Signals HtClient) g.row.F.Denot). Answers (λ item. true) (λ item. home_of item) (λ item. g.F.Fn.pre v.handler (item, tt)) (λ item back. g.F.Fn.post v.handler (item, tt) back)) (sym (ap (λ (v : HtWriter g.row.F.Denot). v.writer) c.w.view_is)) c.requires.handler
+
+pub returns-clause-same : goal.returns-clause-same
+returns-clause-same g c = let F = g.row.F.Denot in let u = Tidy in let a = c.apply in let v = a.new.writer in let s = a.new.state in let d = c.args.self.now in let w = c.args.w.now in same_of F u d w v s a.result (outside F u a.result v s c.self.inside.domain d (record { writer = c.w.inside.writer; state = c.w.inside.state }) w c.self.view_is c.w.view_is a.ensures.done)
+
+pub returns-clause-tally : goal.returns-clause-tally
+returns-clause-tally g c = let F = g.row.F.Denot in let u = Tidy in let a = c.apply in let v = a.new.writer in let s = a.new.state in let d = c.args.self.now in let w = c.args.w.now in tally_of F u d w v s a.result (outside F u a.result v s c.self.inside.domain d (record { writer = c.w.inside.writer; state = c.w.inside.state }) w c.self.view_is c.w.view_is a.ensures.done)
+
+pub returns-clause-log : goal.returns-clause-log
+returns-clause-log g c = let F = g.row.F.Denot in let u = Tidy in let a = c.apply in let v = a.new.writer in let s = a.new.state in let d = c.args.self.now in let w = c.args.w.now in log_of F u d w v s a.result (outside F u a.result v s c.self.inside.domain d (record { writer = c.w.inside.writer; state = c.w.inside.state }) w c.self.view_is c.w.view_is a.ensures.done)
+
+pub returns-clause-steps : goal.returns-clause-steps
+returns-clause-steps g c = let F = g.row.F.Denot in let u = Tidy in let a = c.apply in let v = a.new.writer in let s = a.new.state in let d = c.args.self.now in let w = c.args.w.now in steps_of F u d w v s a.result (outside F u a.result v s c.self.inside.domain d (record { writer = c.w.inside.writer; state = c.w.inside.state }) w c.self.view_is c.w.view_is a.ensures.done)
+
+pub returns-clause-pending : goal.returns-clause-pending
+returns-clause-pending g c = let F = g.row.F.Denot in let u = Tidy in let a = c.apply in let v = a.new.writer in let s = a.new.state in let d = c.args.self.now in let w = c.args.w.now in pending_of F u d w v s a.result (outside F u a.result v s c.self.inside.domain d (record { writer = c.w.inside.writer; state = c.w.inside.state }) w c.self.view_is c.w.view_is a.ensures.done)

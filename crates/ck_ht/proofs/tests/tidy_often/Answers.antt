@@ -1,0 +1,17 @@
+use Rattle.std.proofs.Common.{true, sym, ap, subst, ◌∙◌}
+use Rattle.ck_epoch.specs.Lists.{Answers}
+use Rattle.ck_htlaw.specs.Client.{home_of}
+use Rattle.ck_ht.proofs.Sizes.{whole_room}
+use Rattle.ck_ht.proofs.tests.tidy_often.Goals as goal
+
+pub set-set-requires-clause-room : goal.set-set-requires-clause-room
+set-set-requires-clause-room g c = whole_room _ _ c.requires.arena
+
+pub set-set-requires-clause-handler : goal.set-set-requires-clause-handler
+set-set-requires-clause-handler g c = subst (λ (f : g.row.F.Denot). Answers (λ item. true) (λ item. home_of item) (λ item. g.F.Fn.pre f (item, tt)) (λ item back. g.F.Fn.post f (item, tt) back)) (sym c.loop-k.invariant.handler) c.requires.handler
+
+pub tidy-answer-requires-clause-handler : goal.tidy-answer-requires-clause-handler
+tidy-answer-requires-clause-handler g c =
+    let set = ap (λ w. w.handler) c.set-set.ensures.same in
+    let removed = ap (λ w. w.handler) c.remove-removed.ensures.same in
+    subst (λ (f : g.row.F.Denot). Answers (λ item. true) (λ item. home_of item) (λ item. g.F.Fn.pre f (item, tt)) (λ item back. g.F.Fn.post f (item, tt) back)) (sym (removed ∙ (set ∙ c.loop-k.invariant.handler))) c.requires.handler

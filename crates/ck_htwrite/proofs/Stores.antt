@@ -1,0 +1,204 @@
+-- The stores of a case, one after the other: which may come next, and what they are together. Each names the root as the lists have it then.
+use Rattle.std.proofs.Common.{◌≡◌, ℕ, ◌+◌, ◌*◌, ◌/◌, List, [], ◌∷◌, ◌++◌, map, refl, sym, ap, ◌∙◌, subst}
+use Rattle.ck_run.specs.declared.account.Step.TheVariants.{Store}
+use Rattle.ck_run.specs.declared.account.Entry.{Entry}
+use Rattle.ck_run.specs.Run.{entry, further}
+use Rattle.ck_epoch.specs.State.{Origin}
+use Rattle.ck_epoch.specs.Ends.{Writer}
+use Rattle.ck_htplan.specs.Region.{low_of, high_of}
+use Rattle.ck_htlaw.specs.Host.{Host, lies}
+use Rattle.ck_htlaw.specs.Table.{Layout}
+use Rattle.ck_htwrite.specs.declared.state.HtState.{HtState}
+use Rattle.ck_htwrite.specs.Rebuild.{pair_steps}
+use Rattle.ck_htwrite.specs.State.{IsShaped, next_count}
+use Rattle.ck_htwrite.specs.Updates.{buried_lists, bumped_lists, insert_steps, keyed_lists, move_steps, remove_steps, valued_lists}
+use Rattle.ck_htwrite.specs.Writes.{MayMake, MayStep, Steps, counters_in, opened}
+use Rattle.ck_htwrite.proofs.Copying.{new_word}
+use Rattle.ck_htwrite.proofs.Making.{may_first, may_rest, may_rests, may_some, steps_then}
+use Rattle.ck_htwrite.proofs.Shapes.{bumped_again}
+
+module _ {D : Type 0} (h : Host D) (o : Origin D) where
+  abbrev l : Layout
+  l = lies h o
+
+  abbrev n : ℕ
+  n = counters_in h o
+
+  -- Four steps, each as the code writes it
+  module _ {F : Type 0} (e0 e1 e2 e3 : Entry) (w : Writer D F) (due : MayMake h o w.token (e0 ∷ e1 ∷ e2 ∷ e3 ∷ [])) (f0 : Entry) (is0 : f0 ≡ e0) (w1 : Writer D F) (step0 : Steps h o w (f0 ∷ []) w1) where
+    first_step : Steps h o w (e0 ∷ []) w1
+    first_step = subst (λ (e : Entry). Steps h o w (e ∷ []) w1) is0 step0
+
+    left1 : MayMake h o w1.token (e1 ∷ e2 ∷ e3 ∷ [])
+    left1 = may_rest h o w w1 e0 (e1 ∷ e2 ∷ e3 ∷ []) due first_step
+
+    pub may_second : (f1 : Entry) → f1 ≡ e1 → MayStep h o w1.token f1
+    may_second f1 is1 = subst (MayStep h o w1.token) (sym is1) (may_first h o w1.token e1 (e2 ∷ e3 ∷ []) left1)
+
+    module _ (f1 : Entry) (is1 : f1 ≡ e1) (w2 : Writer D F) (step1 : Steps h o w1 (f1 ∷ []) w2) where
+      second_step : Steps h o w1 (e1 ∷ []) w2
+      second_step = subst (λ (e : Entry). Steps h o w1 (e ∷ []) w2) is1 step1
+
+      left2 : MayMake h o w2.token (e2 ∷ e3 ∷ [])
+      left2 = may_rest h o w1 w2 e1 (e2 ∷ e3 ∷ []) left1 second_step
+
+      pub may_third : (f2 : Entry) → f2 ≡ e2 → MayStep h o w2.token f2
+      may_third f2 is2 = subst (MayStep h o w2.token) (sym is2) (may_first h o w2.token e2 (e3 ∷ []) left2)
+
+      module _ (f2 : Entry) (is2 : f2 ≡ e2) (w3 : Writer D F) (step2 : Steps h o w2 (f2 ∷ []) w3) where
+        third_step : Steps h o w2 (e2 ∷ []) w3
+        third_step = subst (λ (e : Entry). Steps h o w2 (e ∷ []) w3) is2 step2
+
+        pub may_fourth : (f3 : Entry) → f3 ≡ e3 → MayStep h o w3.token f3
+        may_fourth f3 is3 = subst (MayStep h o w3.token) (sym is3) (may_first h o w3.token e3 [] (may_rest h o w2 w3 e2 (e3 ∷ []) left2 third_step))
+
+        pub all_four : (f3 : Entry) → f3 ≡ e3 → (w4 : Writer D F) → Steps h o w3 (f3 ∷ []) w4 → Steps h o w (e0 ∷ e1 ∷ e2 ∷ e3 ∷ []) w4
+        all_four f3 is3 w4 step3 = steps_then h o w w1 w4 (e0 ∷ []) (e1 ∷ e2 ∷ e3 ∷ []) first_step (steps_then h o w1 w2 w4 (e1 ∷ []) (e2 ∷ e3 ∷ []) second_step
+            (steps_then h o w2 w3 w4 (e2 ∷ []) (e3 ∷ []) third_step (subst (λ (e : Entry). Steps h o w3 (e ∷ []) w4) is3 step3)))
+
+  -- A pair is stored in a slot of a region that is being built
+  module _ {F : Type 0} (root at low high value : ℕ) (w : Writer D F) (due : MayMake h o w.token (map further (pair_steps l root at low high value))) where
+    abbrev stored : ℕ → ℕ → Entry
+    stored j x = further (Store (l.base + (root / 32 + 4 * at + j)) x)
+
+    abbrev in_word : ℕ → ℕ → Entry
+    in_word j x = further (Store (l.word root at j) x)
+
+    stored_is : (j x : ℕ) → stored j x ≡ in_word j x
+    stored_is j x = ap (λ (a : ℕ). further (Store a x)) (new_word l.base root at j)
+
+    pub may_pair_value : MayStep h o w.token (stored 3 value)
+    may_pair_value = subst (MayStep h o w.token) (sym (stored_is 3 value)) (may_first h o w.token (in_word 3 value) (in_word 1 low ∷ in_word 2 high ∷ in_word 0 1 ∷ []) due)
+
+    module _ (w1 : Writer D F) (step0 : Steps h o w (stored 3 value ∷ []) w1) where
+      pub may_pair_low : MayStep h o w1.token (stored 1 low)
+      may_pair_low = may_second (in_word 3 value) (in_word 1 low) (in_word 2 high) (in_word 0 1) w due (stored 3 value) (stored_is 3 value) w1 step0 (stored 1 low) (stored_is 1 low)
+
+      module _ (w2 : Writer D F) (step1 : Steps h o w1 (stored 1 low ∷ []) w2) where
+        pub may_pair_high : MayStep h o w2.token (stored 2 high)
+        may_pair_high = may_third (in_word 3 value) (in_word 1 low) (in_word 2 high) (in_word 0 1) w due (stored 3 value) (stored_is 3 value) w1 step0 (stored 1 low) (stored_is 1 low) w2 step1 (stored 2 high) (stored_is 2 high)
+
+        module _ (w3 : Writer D F) (step2 : Steps h o w2 (stored 2 high ∷ []) w3) where
+          pub may_pair_state : MayStep h o w3.token (stored 0 1)
+          may_pair_state = may_fourth (in_word 3 value) (in_word 1 low) (in_word 2 high) (in_word 0 1) w due (stored 3 value) (stored_is 3 value) w1 step0 (stored 1 low) (stored_is 1 low) w2 step1 (stored 2 high) (stored_is 2 high) w3 step2 (stored 0 1) (stored_is 0 1)
+
+          pub paired : (w4 : Writer D F) → Steps h o w3 (stored 0 1 ∷ []) w4 → Steps h o w (map further (pair_steps l root at low high value)) w4
+          paired = all_four (in_word 3 value) (in_word 1 low) (in_word 2 high) (in_word 0 1) w due (stored 3 value) (stored_is 3 value) w1 step0 (stored 1 low) (stored_is 1 low) w2 step1 (stored 2 high) (stored_is 2 high) w3 step2 (stored 0 1) (stored_is 0 1)
+
+  -- A slot of the present region gets its value, its key and its state
+  module _ {F : Type 0} (opens : List ℕ) (at key value : ℕ) (w : Writer D F) (s : HtState) (due : MayMake h o w.token (opened opens (insert_steps l s.root at key value))) where
+    abbrev e0 : Entry
+    e0 = entry opens (Store (l.word s.root at 3) value)
+
+    abbrev e1 : Entry
+    e1 = further (Store (l.word s.root at 1) (low_of key))
+
+    abbrev e2 : Entry
+    e2 = further (Store (l.word s.root at 2) (high_of key))
+
+    abbrev e3 : Entry
+    e3 = further (Store (l.word s.root at 0) 1)
+
+    module _ (w1 : Writer D F) (s1 : HtState) (step0 : Steps h o w (e0 ∷ []) w1) (root1 : s1.root ≡ s.root) (low : ℕ) (low_is : low ≡ low_of key) where
+      abbrev f1 : Entry
+      f1 = further (Store (l.word s1.root at 1) low)
+
+      is1 : f1 ≡ e1
+      is1 = λ i. further (Store (l.word (root1 i) at 1) (low_is i))
+
+      pub may_low : MayStep h o w1.token f1
+      may_low = may_second e0 e1 e2 e3 w due e0 refl w1 step0 f1 is1
+
+      module _ (w2 : Writer D F) (s2 : HtState) (step1 : Steps h o w1 (f1 ∷ []) w2) (root2 : s2.root ≡ s1.root) (high : ℕ) (high_is : high ≡ high_of key) where
+        abbrev f2 : Entry
+        f2 = further (Store (l.word s2.root at 2) high)
+
+        is2 : f2 ≡ e2
+        is2 = λ i. further (Store (l.word ((root2 ∙ root1) i) at 2) (high_is i))
+
+        pub may_high : MayStep h o w2.token f2
+        may_high = may_third e0 e1 e2 e3 w due e0 refl w1 step0 f1 is1 w2 step1 f2 is2
+
+        module _ (w3 : Writer D F) (s3 : HtState) (step2 : Steps h o w2 (f2 ∷ []) w3) (root3 : s3.root ≡ s2.root) where
+          abbrev f3 : Entry
+          f3 = further (Store (l.word s3.root at 0) 1)
+
+          is3 : f3 ≡ e3
+          is3 = ap (λ (r : ℕ). further (Store (l.word r at 0) 1)) (root3 ∙ (root2 ∙ root1))
+
+          pub may_state : MayStep h o w3.token f3
+          may_state = may_fourth e0 e1 e2 e3 w due e0 refl w1 step0 f1 is1 w2 step1 f2 is2 w3 step2 f3 is3
+
+          pub placed : (w4 : Writer D F) → Steps h o w3 (f3 ∷ []) w4 → Steps h o w (opened opens (insert_steps l s.root at key value)) w4
+          placed = all_four e0 e1 e2 e3 w due e0 refl w1 step0 f1 is1 w2 step1 f2 is2 w3 step2 f3 is3
+
+  -- A bump, the stores of a slot, and what comes then
+  module _ {F : Type 0} (opens : List ℕ) (at key value : ℕ) (rest : List Entry) (w : Writer D F) (s : HtState) (due : MayMake h o w.token (entry opens (Store (l.counter s.root) (next_count n s)) ∷ map further (insert_steps l s.root at key value) ++ rest))
+      (w1 : Writer D F) (s1 : HtState) (bump : Steps h o w (entry opens (Store (l.counter s.root) (next_count n s)) ∷ []) w1) (bumped : s1 ≡ bumped_lists n s) where
+    root_after : s1.root ≡ s.root
+    root_after = ap (λ (z : HtState). z.root) bumped
+
+    left_bumped : MayMake h o w1.token (map further (insert_steps l s.root at key value) ++ rest)
+    left_bumped = may_rest h o w w1 _ (map further (insert_steps l s.root at key value) ++ rest) due bump
+
+    pub may_place : MayMake h o w1.token (map further (insert_steps l s1.root at key value))
+    may_place = subst (λ (r : ℕ). MayMake h o w1.token (map further (insert_steps l r at key value))) (sym root_after) (may_some h o w1.token (map further (insert_steps l s.root at key value)) rest left_bumped)
+
+    module _ (w2 : Writer D F) (placing : Steps h o w1 (map further (insert_steps l s1.root at key value)) w2) where
+      place_steps : Steps h o w1 (map further (insert_steps l s.root at key value)) w2
+      place_steps = subst (λ (r : ℕ). Steps h o w1 (map further (insert_steps l r at key value)) w2) root_after placing
+
+      left_placed : MayMake h o w2.token rest
+      left_placed = may_rests h o w1 w2 (map further (insert_steps l s.root at key value)) rest left_bumped place_steps
+
+      pub reused : Steps h o w (entry opens (Store (l.counter s.root) (next_count n s)) ∷ map further (insert_steps l s.root at key value)) w2
+      reused = steps_then h o w w1 w2 (entry opens (Store (l.counter s.root) (next_count n s)) ∷ []) (map further (insert_steps l s.root at key value)) bump place_steps
+
+  -- A key moves: after them the second bump and the tombstone
+  module _ {F : Type 0} (opens : List ℕ) (to from key value : ℕ) (w : Writer D F) (s : HtState) (shape : IsShaped n s) (due : MayMake h o w.token (opened opens (move_steps l s.root to from key value (next_count n s)))) where
+    abbrev e5 : Entry
+    e5 = further (Store (l.counter s.root) (next_count n s + 1))
+
+    abbrev e6 : Entry
+    e6 = further (Store (l.word s.root from 0) 2)
+
+    module _ (w1 : Writer D F) (s1 : HtState) (bump : Steps h o w (entry opens (Store (l.counter s.root) (next_count n s)) ∷ []) w1) (bumped : s1 ≡ bumped_lists n s) where
+      pub may_place_moved : MayMake h o w1.token (map further (insert_steps l s1.root to key value))
+      may_place_moved = may_place opens to key value (e5 ∷ e6 ∷ []) w s due w1 s1 bump bumped
+
+      module _ (w2 : Writer D F) (s2 : HtState) (placing : Steps h o w1 (map further (insert_steps l s1.root to key value)) w2) (lists : s2 ≡ keyed_lists (valued_lists s1 to value) to key) where
+        lists_then : s2 ≡ keyed_lists (valued_lists (bumped_lists n s) to value) to key
+        lists_then = lists ∙ ap (λ (z : HtState). keyed_lists (valued_lists z to value) to key) bumped
+
+        left_moved : MayMake h o w2.token (e5 ∷ e6 ∷ [])
+        left_moved = left_placed opens to key value (e5 ∷ e6 ∷ []) w s due w1 s1 bump bumped w2 placing
+
+        same_bump : further (Store (l.counter s2.root) (next_count n s2)) ≡ e5
+        same_bump = ap (λ (z : HtState). further (Store (l.counter z.root) (next_count n z))) lists_then ∙ ap (λ (x : ℕ). further (Store (l.counter s.root) x)) (bumped_again n s shape)
+
+        pub may_bump_again : MayStep h o w2.token (further (Store (l.counter s2.root) (next_count n s2)))
+        may_bump_again = subst (MayStep h o w2.token) (sym same_bump) (may_first h o w2.token e5 (e6 ∷ []) left_moved)
+
+        module _ (w3 : Writer D F) (s3 : HtState) (again : Steps h o w2 (further (Store (l.counter s2.root) (next_count n s2)) ∷ []) w3) (lists3 : s3 ≡ bumped_lists n s2) where
+          bump_step : Steps h o w2 (e5 ∷ []) w3
+          bump_step = subst (λ (e : Entry). Steps h o w2 (e ∷ []) w3) same_bump again
+
+          root_moved : s3.root ≡ s.root
+          root_moved = ap (λ (z : HtState). z.root) lists3 ∙ ap (λ (z : HtState). z.root) lists_then
+
+          pub may_bury : MayStep h o w3.token (further (Store (l.word s3.root from 0) 2))
+          may_bury = subst (λ (r : ℕ). MayStep h o w3.token (further (Store (l.word r from 0) 2))) (sym root_moved) (may_first h o w3.token e6 [] (may_rest h o w2 w3 e5 (e6 ∷ []) left_moved bump_step))
+
+          pub moved : (w4 : Writer D F) → Steps h o w3 (further (Store (l.word s3.root from 0) 2) ∷ []) w4 → Steps h o w (opened opens (move_steps l s.root to from key value (next_count n s))) w4
+          moved w4 bury = steps_then h o w w2 w4 (entry opens (Store (l.counter s.root) (next_count n s)) ∷ map further (insert_steps l s.root to key value)) (e5 ∷ e6 ∷ []) (reused opens to key value (e5 ∷ e6 ∷ []) w s due w1 s1 bump bumped w2 placing)
+              (steps_then h o w2 w3 w4 (e5 ∷ []) (e6 ∷ []) bump_step (subst (λ (r : ℕ). Steps h o w3 (further (Store (l.word r from 0) 2) ∷ []) w4) root_moved bury))
+
+  -- A key is removed: a tombstone, and a bump
+  module _ {F : Type 0} (opens : List ℕ) (at : ℕ) (w : Writer D F) (s : HtState) (w1 : Writer D F) (s1 : HtState) (bury : Steps h o w (entry opens (Store (l.word s.root at 0) 2) ∷ []) w1) (buried : s1 ≡ buried_lists s at) where
+    pub may_bump_after : MayMake h o w.token (opened opens (remove_steps l s.root at (next_count n s))) → MayStep h o w1.token (further (Store (l.counter s1.root) (next_count n s1)))
+    may_bump_after due = subst (λ (z : HtState). MayStep h o w1.token (further (Store (l.counter z.root) (next_count n z)))) (sym buried)
+        (may_first h o w1.token _ [] (may_rest h o w w1 _ (further (Store (l.counter s.root) (next_count n s)) ∷ []) due bury))
+
+    pub removed : (w2 : Writer D F) → Steps h o w1 (further (Store (l.counter s1.root) (next_count n s1)) ∷ []) w2 → Steps h o w (opened opens (remove_steps l s.root at (next_count n s))) w2
+    removed w2 bump = steps_then h o w w1 w2 (entry opens (Store (l.word s.root at 0) 2) ∷ []) (further (Store (l.counter s.root) (next_count n s)) ∷ []) bury
+        (subst (λ (z : HtState). Steps h o w1 (further (Store (l.counter z.root) (next_count n z)) ∷ []) w2) buried bump)
