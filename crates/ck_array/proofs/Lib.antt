@@ -1,3 +1,20 @@
 mod Loading
 pub mod Resting
-mod Editing
+mod EditSteps
+mod CommitSteps
+mod Opened
+mod Elsewhere
+mod EventSteps
+mod SignalSteps
+mod AtOpening
+mod AllSteps
+mod Waits
+mod Polls
+mod Polled
+mod Edits
+mod Results
+mod Answering
+mod Placing
+mod PlacingEvents
+mod BoundingEvents
+mod Closing

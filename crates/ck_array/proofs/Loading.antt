@@ -27,7 +27,7 @@ module _ {D : Type 0} (h : Host D) (o : Origin D) where
   abbrev b : ℕ
   b = base_word h o
 
-  own_word : (at : ℕ) → at < array_words → leb b (b + at) && ltb (b + at) (b + array_words) ≡ true
+  pub own_word : (at : ℕ) → at < array_words → leb b (b + at) && ltb (b + at) (b + array_words) ≡ true
   own_word at low = range_in b (b + array_words) (b + at) (omega arith) (omega arith)
 
   pub may_load : IsWithin array h.client h.place h.part → (t : Token D) → origin t ≡ o → IsDomainToken h.client t → (opens : List ℕ) (at n : ℕ) → at < array_words → IsDueAt h o t opens at → MayFollow h.client t (entry opens (Load (b + at) n))

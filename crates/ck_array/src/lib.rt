@@ -1,10 +1,16 @@
 //! The calls of an array with one writer and many readers.
 #![tactic(auto)]
 
+mod array;
+mod committing;
+mod editing;
+mod giving;
 pub mod part;
 mod state;
 #[cfg(test)]
 mod tests;
 mod writing;
 
+pub use array::{Array, ArrayPass, ArrayWriter, home};
+pub use ck_arraylaw::ArrayClient;
 pub use state::ArrayState;

@@ -14,6 +14,7 @@ ghost use Rattle.ck_arraylaw.specs.Known.{knows};
 ghost use Rattle.ck_array.specs.Reads.{resting, IsResting, IsDueAt, ReadsAll};
 ghost use Rattle.ck_history.specs.declared.edit.TheConstants.{MOST_MEMBERS};
 
+pub use crate::committing::commit;
 pub use crate::writing::{add, drop_one};
 use ck_arraylaw::{ARENA, ARENA_LOG, ArrayClient};
 use ck_epoch::{Domain, Pass, Within};

@@ -8,13 +8,15 @@ use Rattle.ck_history.specs.declared.edit.Edit.{Edit}
 use Rattle.ck_history.specs.declared.edit.Edit.TheVariants.{Add, Drop, Commit}
 use Rattle.ck_history.specs.Lists.{ListState, list_step, empty_lists, lists_after_from}
 use Rattle.ck_epoch.specs.declared.item.Item.{Item}
-use Rattle.ck_epoch.specs.State.{Origin, Token, Retirement, state}
-use Rattle.ck_epoch.specs.Ends.{IsDomainToken}
-use Rattle.ck_epoch.specs.Calls.{MayFollow}
+use Rattle.ck_epoch.specs.declared.item.Retired.{Retired}
+use Rattle.ck_epoch.specs.State.{Origin, Token, state}
+use Rattle.ck_epoch.specs.Ends.{IsDomainToken, Writer}
+use Rattle.ck_epoch.specs.Calls.{MayFollow, SameItemsAndEpoch}
+use Rattle.ck_arena.specs.Arena.{IsKept, unreturned}
 use Rattle.ck_epoch.specs.Within.{IsWithin}
 use Rattle.ck_arraylaw.specs.Calls.{committing, opening_of}
 use Rattle.ck_arraylaw.specs.Host.{Host, floor_word, base_word}
-use Rattle.ck_arraylaw.specs.Layout.{array_words}
+use Rattle.ck_arraylaw.specs.Layout.{array_words, IsArrayItem}
 use Rattle.ck_arraylaw.specs.Array.{WriterState, LocalState, writer, MayBegin, MayIf, begun, after_own, after_other, is_array_word, array_next}
 use Rattle.ck_arraylaw.specs.Regions.{place_in}
 use Rattle.ck_arraylaw.specs.Client.{BeginsCommit, array}
@@ -23,7 +25,7 @@ use Rattle.ck_arraylaw.proofs.Members.{after-append}
 use Rattle.ck_arraylaw.proofs.Tokens.{knows_next, may_step}
 use Rattle.ck_arraylaw.proofs.Words.{range_in}
 use Rattle.ck_array.specs.declared.state.ArrayState.{ArrayState}
-use Rattle.ck_array.specs.Writes.{opens_of, idle, HasOut, IsReady}
+use Rattle.ck_array.specs.Writes.{opens_of, idle, region_piece, IsReady}
 
 -- an edit of the pending list begins no commit
 begins_none : (e : Edit) → (e ≡ Commit → ⊥) → opening_of (opens_of e) ≡ committing → ⊥
@@ -68,12 +70,18 @@ module _ {D : Type 0} (h : Host D) (o : Origin D) (log : List Edit) (region : It
 pub lists_next : (s : ListState) (log : List Edit) (e : Edit) → s ≡ lists_after_from empty_lists log → (list_step s e).0 ≡ lists_after_from empty_lists (log ++ e ∷ [])
 lists_next s log e is = ap (λ (x : ListState). (list_step x e).0) is ∙ sym (after-append empty_lists log (e ∷ []))
 
--- a writer whose pending items stay is ready as before
-pub ready_next : {D : Type 0} (h : Host D) (o : Origin D) (t u : Token D) (s s' : ArrayState) (log : List Edit) → knows h o u ≡ writer (idle log s.region) → s'.lists ≡ lists_after_from empty_lists log → s'.region ≡ s.region → s'.arena ≡ s.arena
-    → (state u).pending ≡ (state t).pending → HasOut (place_in h o) (state t).pending s.arena s.region → IsReady h o u s'
-ready_next h o t u s s' log local lists region arena pending out = record {
+-- a writer that made one step on the array's words is ready as before, but for its lists
+pub ready_next : {D F : Type 0} (h : Host D) (o : Origin D) (w v : Writer D F) (s s' : ArrayState) (log : List Edit) (e : Entry) (r : IsReady h o w s) → v ≡ record w { token = adding w.token (e ∷ []) } → SameItemsAndEpoch w.token v.token
+    → knows h o v.token ≡ writer (idle log s.region) → s'.lists ≡ lists_after_from empty_lists log → s' ≡ record s { lists = s'.lists } → IsReady h o v s'
+ready_next {D} {F} h o w v s s' log e r made same local lists is = subst (IsReady h o v) (sym is) record {
   log = log;
-  local = local ∙ ap (λ (r : Item). writer (idle log r)) (sym region);
+  local = local;
   lists = lists;
-  out = subst (λ (k : List Retirement). HasOut (place_in h o) k s'.arena s'.region) (sym pending) (let P : Item → _ → Type 0 = λ r a. HasOut (place_in h o) (state t).pending a r in subst (λ (r : Item). P r s'.arena) (sym region) (subst (λ a. P s.region a) (sym arena) out));
+  inside = r.inside;
+  short = r.short;
+  arena = r.arena;
+  kept = subst (λ (ks : List Retired). IsKept (IsArrayItem (place_in h o)) (place_in h o) (region_piece s.region) ks s.arena) items r.kept;
 }
+  where
+    items : unreturned (state w.token) w.waiting ≡ unreturned (state v.token) v.waiting
+    items i = unreturned (record (state v.token) { pending = sym same.0 i; dispatched = sym same.1 i }) (sym (ap (λ (x : Writer D F). x.waiting) made) i)

@@ -1,0 +1,11 @@
+use Rattle.std.proofs.Common.{◌≡◌, ◌+◌, ◌*◌, ◌≤◌}
+use Rattle.ck_run.specs.Tokens.{table}
+use Rattle.ck_array.proofs.tests.commits.Given as goal
+
+abbrev pub invariant-loop-i : goal.invariant-loop-i
+invariant-loop-i g l = record {
+  same_table : table l.w.writer.token ≡ table l.initial.w.writer.token;
+  calls : l.w.writer.calls ≤ l.initial.w.writer.calls + 3 * l.i;
+  handler : l.w.writer.handler ≡ l.initial.w.writer.handler;
+  made : l.made ≤ l.i;
+}
