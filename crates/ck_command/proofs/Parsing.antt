@@ -17,8 +17,8 @@ use Rattle.clap.specs.declared.error.kind.ErrorKind.TheVariants.{OutOfMemory}
 use Rattle.ck_command.specs.Parser.{table_app}
 use Rattle.ck_command.specs.declared.words.Form.{Form}
 use Rattle.ck_command.specs.declared.words.Form.TheVariants.{Run, Judgment}
-use Rattle.ck_command.specs.Words.{Said, Table, Judge, command_said, judgment_said, nothing_said, read, number_within}
-use Rattle.ck_command.specs.Asked.{asked_by, said_by}
+use Rattle.ck_command.specs.Words.{Said, Run as AsRun, Judge, command_said, judgment_said, nothing_said, read, number_within}
+use Rattle.ck_command.specs.Asked.{asked_by, kind_value, said_by}
 use Rattle.ck_command.proofs.Rows.{Tells, one}
 use Rattle.ck_command.proofs.Turns.{IsWrong}
 use Rattle.ck_command.proofs.Walking.{AllTexts, parses, wrong_run, wrong_judgment}
@@ -37,7 +37,7 @@ among_nothing k (x ∷ xs) is e = subst (IsAmong k) e is
 
 -- what isn't right for one form asks for nothing
 wrong_said : (form : Form) (said : Said) → IsWrong said → said_by form said ≡ None
-wrong_said Run said wrong = ap (option_map Table) (wrong_run said wrong)
+wrong_said (Run kind) said wrong = ap (option_map AsRun) (wrong_run (kind_value kind) said wrong)
 wrong_said Judgment said wrong = ap (option_map Judge) (wrong_judgment said wrong)
 
 -- what is made of the answer of a choice
@@ -57,7 +57,7 @@ first_one None = refl
 first_one (Some t) = refl
 
 asked_is : (form : Form) (words : List Text) → asked_by form words ≡ option_and_then (said_by form) (read words None nothing_said)
-asked_is Run words = map_and_then Table command_said (read words None nothing_said)
+asked_is (Run kind) words = map_and_then AsRun (command_said (kind_value kind)) (read words None nothing_said)
 asked_is Judgment words = map_and_then Judge judgment_said (read words None nothing_said)
 
 module _ (form : Form) where

@@ -13,7 +13,7 @@ use Rattle.clap.proofs.FaultLemmas.{leaf_fault}
 use Rattle.clap.specs.declared.error.kind.ErrorKind.{ErrorKind}
 use Rattle.clap.specs.declared.error.kind.ErrorKind.TheVariants.{ArgumentConflict}
 use Rattle.ck_command.specs.Parser.{table_app}
-use Rattle.ck_command.specs.Words.{Said, Word, file, option, end, other, nothing_said, command_with, command_said, judgment_said, setting, read, say, with_value, word_of}
+use Rattle.ck_command.specs.Words.{Kind, Said, Word, file, option, end, other, nothing_said, command_with, command_said, judgment_said, setting, read, say, with_value, word_of}
 use Rattle.ck_command.proofs.Rows.{same_text, some_none, nonempty, and_false, or_true, top, rules, seed, workers, files, option_at, value_at, put, which, once, with_value_is, Tells, tells_put, tells_file, use_passes, use_again}
 use Rattle.ck_command.proofs.Turns.{IsDashed, Looks, looks, Pending, at, held_fault, IsWrong, end_of, Passes, Answers, Reads, step, stop, IsFree, after_file, trailing_turn, trailing_walk, file_turn, file_walk, end_turn, end_walk, other_turn, unknown_turn, given_turn, given_walk, waits_turn, waits_walk, waiting_at, value_turn, value_walk, no_value, one_value}
 
@@ -88,16 +88,16 @@ dashed_setting least most missing word lt dash = go (bytes_eq (decimal n) word) 
         absurd (dashed_numeral word (subst (IsNumeral 10) (same_text (decimal n) word same) (decimal_is_IsNumeral n fits).0) dash)
 
 -- no run has such a value
-pub wrong_run : (said : Said) → IsWrong said → command_said said ≡ None
-wrong_run said (k, word, is, dash) = go k is
+pub wrong_run : (kind : Kind) (said : Said) → IsWrong said → command_said kind said ≡ None
+wrong_run kind said (k, word, is, dash) = go k is
   where
-    no_workers : (o : Option ℕ) (names : List Text) → command_with o None names ≡ None
+    no_workers : (o : Option ℕ) (names : List Text) → command_with kind o None names ≡ None
     no_workers None names = refl
     no_workers (Some n) names = refl
 
-    go : (k : Bool) → value_at k said ≡ Some word → command_said said ≡ None
-    go true is = ap (λ o. command_with o (setting 1 16 4 said.workers) said.files) (ap (setting 0 18446744073709551615 0) is ∙ dashed_setting 0 18446744073709551615 0 word (omega arith) dash)
-    go false is = ap (λ o. command_with (setting 0 18446744073709551615 0 said.seed) o said.files) (ap (setting 1 16 4) is ∙ dashed_setting 1 16 4 word (omega arith) dash)
+    go : (k : Bool) → value_at k said ≡ Some word → command_said kind said ≡ None
+    go true is = ap (λ o. command_with kind o (setting 1 16 4 said.workers) said.files) (ap (setting 0 18446744073709551615 0) is ∙ dashed_setting 0 18446744073709551615 0 word (omega arith) dash)
+    go false is = ap (λ o. command_with kind (setting 0 18446744073709551615 0 said.seed) o said.files) (ap (setting 1 16 4) is ∙ dashed_setting 1 16 4 word (omega arith) dash)
         ∙ no_workers (setting 0 18446744073709551615 0 said.seed) said.files
 
 -- and no judgment has any

@@ -3,16 +3,22 @@ use Rattle.std.specs.Prelude.{ℕ, Bool, not, ◌==◌, ◌&&◌, ◌||◌, if�
 use Rattle.std.specs.List.{list_all, list_any, before_first, after_first}
 use Rattle.std.specs.Str.Parse.{digits_value}
 
--- what a run over a table is asked: the seed of its hashes, how many tasks answer queries, and the names of its update file
--- and of its query files
-pub record TableCommand : Type 0 where
+-- what runs of files are over
+pub data Kind : Type 0 where
+  table : Kind
+  list : Kind
+
+-- what a run of files is asked: its kind, the seed of a table's hashes, how many tasks answer queries, and the names of its update
+-- file and of its query files
+pub record RunCommand : Type 0 where
+  pub kind : Kind
   pub seed : ℕ
   pub workers : ℕ
   pub updates : List ℕ
   pub queries : List (List ℕ)
 
 -- file 0 is the update file, file f the query file with the number f
-abbrev pub names : TableCommand → List (List ℕ)
+abbrev pub names : RunCommand → List (List ℕ)
 names c = c.updates ∷ c.queries
 
 -- what a judgment is asked: the name of its update file, and those of its query files and last of the report
@@ -24,9 +30,9 @@ pub record JudgeCommand : Type 0 where
 abbrev pub judged_names : JudgeCommand → List (List ℕ)
 judged_names c = c.updates ∷ c.others
 
--- what the words ask for: a run over a table, the summary of a seed and of so many lines, or a judgment on a report of a table
+-- what the words ask for: a run of files, the summary of a seed and of so many lines, or a judgment on a report of a table
 pub data Command : Type 0 where
-  Table : TableCommand → Command
+  Run : RunCommand → Command
   Make : ℕ → ℕ → Command
   Judge : JudgeCommand → Command
 
@@ -101,21 +107,21 @@ abbrev pub are_file_names : ℕ → ℕ → List (List ℕ) → Bool
 are_file_names least most files = nat_le least (length files) && (nat_le (length files) most && list_all (λ name. not (length name == 0)) files)
 
 -- the command of these numbers and files, of which there are from 2 to 65, where they are within their limits
-abbrev pub command_with : Option ℕ → Option ℕ → List (List ℕ) → Option TableCommand
-command_with (Some seed) (Some workers) (updates ∷ queries) =
+abbrev pub command_with : Kind → Option ℕ → Option ℕ → List (List ℕ) → Option RunCommand
+command_with kind (Some seed) (Some workers) (updates ∷ queries) =
     if are_file_names 2 65 (updates ∷ queries)
-    then Some (record { seed = seed; workers = workers; updates = updates; queries = queries })
+    then Some (record { kind = kind; seed = seed; workers = workers; updates = updates; queries = queries })
     else None
-command_with _ _ _ = None
+command_with _ _ _ _ = None
 
 -- the command that was said: the seed is any number of 64 bits and 0 by default, the workers are 1 to 16 and 4 by default
-abbrev pub command_said : Said → Option TableCommand
-command_said said =
-    command_with (setting 0 18446744073709551615 0 said.seed) (setting 1 16 4 said.workers) said.files
+abbrev pub command_said : Kind → Said → Option RunCommand
+command_said kind said =
+    command_with kind (setting 0 18446744073709551615 0 said.seed) (setting 1 16 4 said.workers) said.files
 
--- the command that the words after `table` say
-abbrev pub said_after : List (List ℕ) → Option TableCommand
-said_after words = option_and_then command_said (read words None nothing_said)
+-- the command that the words after the kind say
+abbrev pub said_after : Kind → List (List ℕ) → Option RunCommand
+said_after kind words = option_and_then (command_said kind) (read words None nothing_said)
 
 -- the judgment of these files, of which there are from 3 to 66
 abbrev pub judgment_with : List (List ℕ) → Option JudgeCommand
@@ -146,11 +152,12 @@ abbrev pub make_said : List (List ℕ) → Option Command
 make_said (seed ∷ lines ∷ []) = make_with (number_within 0 18446744073709551615 seed) (number_within 0 999999 lines)
 make_said _ = None
 
--- the command that the words ask for: `table`, and then options and files; `make` and two numbers; or `judge table` and files
+-- the command that the words ask for: `table` or `list`, and then options and files; `make` and two numbers; or `judge table` and files
 abbrev pub command_of : List (List ℕ) → Option Command
 command_of [] = None
 command_of (kind ∷ words) =
-    if bytes_eq kind (codes "table") then option_map Table (said_after words)
+    if bytes_eq kind (codes "table") then option_map Run (said_after table words)
+    else if bytes_eq kind (codes "list") then option_map Run (said_after list words)
     else if bytes_eq kind (codes "make") then make_said words
     else if bytes_eq kind (codes "judge") then option_map Judge (judgment_after words)
     else None

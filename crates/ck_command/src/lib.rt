@@ -3,4 +3,4 @@
 
 mod words;
 
-pub use words::{Command, JudgeCommand, TableCommand, read_words};
+pub use words::{Command, JudgeCommand, Kind, RunCommand, read_words};

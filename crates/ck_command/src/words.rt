@@ -3,7 +3,7 @@ ghost use Rattle.std.specs.List.{list_all};
 ghost use Rattle.clap.specs.Simple.{app_of};
 ghost use Rattle.ck_command.specs.Parser.{table_app};
 ghost use Rattle.ck_command.specs.Words.{Judge, are_file_names, command_of, command_said, judgment_after, judgment_with, make_said, number_within, setting};
-ghost use Rattle.ck_command.specs.Asked.{asked_by, command_value, judgment_value, said_by, table_value};
+ghost use Rattle.ck_command.specs.Asked.{asked_by, command_value, kind_value, judgment_value, said_by, run_value};
 
 use ck_text::read_decimal;
 use clap::error::ErrorKind;
@@ -16,18 +16,29 @@ const MOST_LINES: u64 = 999_999;
 /// What the words of the command line ask for.
 #[derive(Debug, Drop)]
 pub enum Command<'a> {
-    /// A run over a table.
-    Table(TableCommand<'a>),
+    /// A run of files.
+    Run(RunCommand<'a>),
     /// The summary of the run that a seed generates, with so many updates and queries, at most 999,999.
     Make { seed: u64, lines: u64 },
     /// A judgment on a report of a table.
     Judge(JudgeCommand<'a>),
 }
 
-/// What a run over a table is asked.
+/// What runs of files are over.
+#[derive(Clone, Copy, Debug, PartialEq, Eq)]
+pub enum Kind {
+    /// A table of keys and values.
+    Table,
+    /// A list of members.
+    List,
+}
+
+/// What a run of files is asked.
 #[derive(Debug, Drop)]
-pub struct TableCommand<'a> {
-    /// The seed of the hashes. The map of one thread has none, so it has no effect yet.
+pub struct RunCommand<'a> {
+    /// What it is over.
+    pub kind: Kind,
+    /// The seed of a table's hashes. A list has none.
     pub seed: u64,
     /// How many threads read, 1 to 16.
     pub workers: u64,
@@ -49,8 +60,8 @@ pub struct JudgeCommand<'a> {
 // What is asked of the options and the files after a kind.
 #[derive(Clone, Copy)]
 enum Form {
-    // A run: options, and from 2 to 65 files.
-    Run,
+    // A run of this kind: options, and from 2 to 65 files.
+    Run(Kind),
     // A judgment: no option, and from 3 to 66 files.
     Judgment,
 }
@@ -61,7 +72,10 @@ pub fn read_words<'a>(alloc: Global, words: &'a [String]) -> Result<Option<Comma
     ensures { IfOk result (λ answer. command_of (map string_bytes words.now) ≡ option_map command_value answer) }
 {
     match words {
-        [kind, ..] if kind.as_str() == "table" => read_files(alloc, words, Form::Run),
+        [kind, ..] if kind.as_str() == "table" => {
+            read_files(alloc, words, Form::Run(Kind::Table))
+        }
+        [kind, ..] if kind.as_str() == "list" => read_files(alloc, words, Form::Run(Kind::List)),
         [kind, numbers @ ..] if kind.as_str() == "make" => Ok(read_make(numbers)),
         [kind, judged @ ..] if kind.as_str() == "judge" => read_judgment(alloc, judged),
         _ => Ok(None),
@@ -110,8 +124,8 @@ fn said_by<'a>(
     }) ≡ option_map command_value answer) }
 {
     match form {
-        Form::Run => match run_said(alloc, seed, workers, files)? {
-            Some(command) => Ok(Some(Command::Table(command))),
+        Form::Run(kind) => match run_said(alloc, kind, seed, workers, files)? {
+            Some(command) => Ok(Some(Command::Run(command))),
             None => Ok(None),
         },
         Form::Judgment if seed.is_some() || workers.is_some() => Ok(None),
@@ -125,15 +139,16 @@ fn said_by<'a>(
 // The run that was said: its numbers and names are within their limits.
 fn run_said<'a>(
     alloc: Global,
+    kind: Kind,
     seed: Option<&str>,
     workers: Option<&str>,
     files: &[&'a str],
-) -> Result<Option<TableCommand<'a>>, AllocError>
-    ensures { IfOk result (λ answer. command_said (record {
+) -> Result<Option<RunCommand<'a>>, AllocError>
+    ensures { IfOk result (λ answer. command_said (kind_value kind) (record {
       seed = option_map (λ word. word.now) seed.entry;
       workers = option_map (λ word. word.now) workers.entry;
       files = map (λ name. name.now) files.now;
-    }) ≡ option_map table_value answer) }
+    }) ≡ option_map run_value answer) }
 {
     if !are_file_names(2, 65, files) {
         return Ok(None);
@@ -141,7 +156,8 @@ fn run_said<'a>(
     let seed = setting(0, u64::MAX, 0, seed);
     let workers = setting(1, 16, 4, workers);
     match (seed, workers, files) {
-        (Some(seed), Some(workers), [updates, queries @ ..]) => Ok(Some(TableCommand {
+        (Some(seed), Some(workers), [updates, queries @ ..]) => Ok(Some(RunCommand {
+            kind,
             seed,
             workers,
             updates: *updates,
@@ -212,7 +228,7 @@ fn number_within(least: u64, most: u64, word: &str) -> Option<u64>
     }
 }
 
-// The words, whose first is the kind `table`, read by `clap`.
+// The words, whose first is the kind, read by `clap`.
 fn read_files<'a>(
     alloc: Global,
     words: &'a [String],
@@ -235,7 +251,7 @@ fn read_files<'a>(
     }
 }
 
-// The command `table`, for `clap`. The word `table` stands where `clap` looks for the program's name.
+// The command of a kind, for `clap`. The word for the kind stands where `clap` looks for the program's name.
 fn table_parser<'a>(alloc: Global) -> Result<clap::Command<'a>, AllocError>
     ensures { IfOk result (λ c. app_of c ≡ table_app) }
 {

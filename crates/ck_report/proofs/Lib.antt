@@ -9,3 +9,4 @@ pub mod FirstLine
 pub mod Streaming
 mod Blocks
 pub mod Answering
+pub mod ListLines

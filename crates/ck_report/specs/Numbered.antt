@@ -13,6 +13,15 @@ abbrev pub numbered : {X : Type 0} → (ℕ → X → List ℕ) → ℕ → List
 numbered line_of before [] = []
 numbered line_of before (x ∷ xs) = line_of (before + 1) x ++ numbered line_of (before + 1) xs
 
+-- the lines of the answers of each file, the files numbered from f on; a line is made of its file, its number and its answer
+abbrev pub files_text : {A : Type 0} → (ℕ → ℕ → A → List ℕ) → ℕ → List (List A) → List ℕ
+files_text answer_line f [] = []
+files_text answer_line f (answers ∷ files) = numbered (answer_line f) 0 answers ++ files_text answer_line (f + 1) files
+
+-- the report of a run, of how its replies, its answers and the entries at the end are printed
+abbrev pub run_text : {R A E : Type 0} → (ℕ → R → List ℕ) → (ℕ → ℕ → A → List ℕ) → (ℕ → E → List ℕ) → List R → List (List A) → List E → List ℕ
+run_text reply_line answer_line entry_line replies files entries = numbered reply_line 0 replies ++ (files_text answer_line 1 files ++ (numbered entry_line 0 entries ++ line (codes "end" ∷ [])))
+
 -- `u I REPLY`
 abbrev pub reply_line : ℕ → Reply → List ℕ
 reply_line i reply = line (codes "u" ∷ decimal i ∷ reply_words reply)

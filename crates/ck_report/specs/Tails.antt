@@ -1,5 +1,5 @@
 -- The parts of lines that are written from their end.
-use Rattle.std.specs.Prelude.{ℕ, List, ◌∷◌, ◌++◌, Option, Some, None, codes, decimal}
+use Rattle.std.specs.Prelude.{ℕ, List, [], ◌∷◌, ◌++◌, Option, Some, None, codes, decimal}
 use Rattle.ck_history.specs.declared.update.Reply.{Reply}
 use Rattle.ck_history.specs.declared.update.Reply.TheVariants.{Fresh, Was, Has, Missing, Tidied, Full}
 
@@ -20,3 +20,8 @@ reply_tail Full after = codes " full\n" ++ after
 abbrev pub found_tail : Option ℕ → List ℕ → List ℕ
 found_tail (Some v) after = value_tail (codes " = ") v after
 found_tail None after = codes " absent\n" ++ after
+
+-- words, each after a space
+abbrev pub after_words : List (List ℕ) → List ℕ
+after_words [] = []
+after_words (w ∷ ws) = 32 ∷ (w ++ after_words ws)

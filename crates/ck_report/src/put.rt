@@ -52,7 +52,7 @@ const FULL: usize = 2 * PIECE;
 
 /// How many bytes the buffer has room for where one task prints: 64 lines at a time, of which none is longer than 128
 /// bytes in a table's report.
-const ROOM: usize = FULL + 64 * 128;
+pub const ROOM: usize = FULL + 64 * 128;
 
 /// Puts a report: the replies, the answers to the queries of each query file, and the pairs at the end. It offers to each put all that is
 /// left, or the next 65,536 bytes where more is left. Where it fails, the sink took a prefix of the report. Up to `tasks`
@@ -125,8 +125,8 @@ fn drop_first(buffer: &mut Vec<u8>, count: usize)
     buffer.truncate(rest);
 }
 
-// Puts the last line, and all that is still to be put before it.
-fn put_end<S: Sink>(sink: &mut S, buffer: &mut Vec<u8>) -> Result<(), PutError>
+/// Puts the last line, and all that is still to be put before it.
+pub fn put_end<S: Sink>(sink: &mut S, buffer: &mut Vec<u8>) -> Result<(), PutError>
     ensures ok { OnOk result (S.taken sink.new ≡ appended (S.taken sink.old) (buffer.old.items ++ codes "end\n")) }
     ensures err { OnErr result (AppendsPrefix (S.taken sink.old) (S.taken sink.new) (buffer.old.items ++ codes "end\n")) }
     ensures cause { IfErr result (λ error. IsPutCause error (S.faults sink.old) (S.faults sink.new)) }
@@ -219,8 +219,8 @@ fn put_pairs<R: Threads + Sync, S: Sink, K: KeyWord + Sync>(
     put_lines(tasks, sink, buffer, &Pairs, pairs)
 }
 
-// The lines of some items, put round by round.
-fn put_lines<R: Threads + Sync, S: Sink, T: Sync, P: LinePrinter<T> + Sync>(
+/// Puts the lines of some items, round by round.
+pub fn put_lines<R: Threads + Sync, S: Sink, T: Sync, P: LinePrinter<T> + Sync>(
     tasks: &Tasks<R>,
     sink: &mut S,
     buffer: &mut Vec<u8>,

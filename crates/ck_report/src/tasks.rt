@@ -62,8 +62,8 @@ impl<R: Threads + Sync> Tasks<'_, R> {
     }
 }
 
-// Appends the lines of these items, one after another.
-fn print_each<T, P: LinePrinter<T>>(
+/// Appends the lines of these items, one after another.
+pub fn print_each<T, P: LinePrinter<T>>(
     out: &mut Vec<u8>,
     printer: &P,
     before: u64,

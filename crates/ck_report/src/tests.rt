@@ -1,5 +1,6 @@
-use crate::{Asked, ReportError, read_map_report, report_map};
-use ck_history::{Key, Reply};
+use crate::{Asked, ReportError, View, put_list_report, read_map_report, report_list, report_map};
+use ck_history::{EditReply, Key, Reply};
+use ck_io::MemSink;
 use std::alloc::{AllocError, Global};
 use std::test::Fail;
 
@@ -116,5 +117,38 @@ fn the_first_fault_is_named(rt: HostRuntime) -> Result<(), Fail> {
     for (text, line) in TEXTS {
         assert_eq!(rt; fault_line(rt.alloc(), text)?, *line);
     }
+    Ok(())
+}
+
+fn view(alloc: Global, members: &[u64]) -> Result<View, AllocError> {
+    Ok(View {
+        members: Vec::from_slice(alloc, members)?,
+    })
+}
+
+#[test]
+fn each_line_of_a_list_is_put(rt: HostRuntime) -> Result<(), Fail> {
+    let alloc = rt.alloc();
+    let replies = [
+        EditReply::Added,
+        EditReply::Full,
+        EditReply::Dropped,
+        EditReply::Missing,
+        EditReply::Committed,
+    ];
+    let mut first = Vec::new(alloc);
+    first.push(view(alloc, &[])?)?;
+    first.push(view(alloc, &[7, 0, 18446744073709551615])?)?;
+    let mut third = Vec::new(alloc);
+    third.push(view(alloc, &[5])?)?;
+    let answers = [first, Vec::new(alloc), third];
+    let mut sink = MemSink::new(alloc, 1000, 1000, Vec::new(alloc))?;
+    put_list_report(&rt, alloc, 1, &mut sink, &replies, &answers, &[5, 6])?;
+    let lines = b"u 1 added\nu 2 full\nu 3 dropped\nu 4 missing\nu 5 committed\n\
+q 1 1 empty\nq 1 2 = 7 0 18446744073709551615\nq 3 1 = 5\n\
+t 5\nt 6\nend\n";
+    assert_eq!(rt; sink.bytes(), lines.as_slice());
+    let text = report_list(alloc, &replies, &answers, &[5, 6])?;
+    assert_eq!(rt; text.as_slice(), lines.as_slice());
     Ok(())
 }

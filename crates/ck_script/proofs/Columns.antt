@@ -1,13 +1,13 @@
 -- Rows that are kept in columns.
-use Rattle.std.specs.Prelude.{nat_le, slice_get, Option, Some, Result, Ok, Err, OnOk, OnErr}
-use Rattle.std.proofs.Common.{◌≡◌, ◌⊎◌, ℕ, zero, suc, ◌+◌, ◌-◌, ◌<◌, ◌≤◌, ◌^◌, ◌%◌, nat_lt, inl, inr, Bool, true, false, if◌then◌else◌, List, [], ◌∷◌, ◌++◌, length, get_or, refl, ap, arith, ◌∙◌, sym, subst}
+use Rattle.std.specs.Prelude.{nat_le, slice_get, Some, Result, Ok, Err, OnOk, OnErr}
+use Rattle.std.proofs.Common.{◌≡◌, ◌⊎◌, ℕ, zero, suc, ◌+◌, ◌-◌, ◌<◌, ◌≤◌, ◌^◌, ◌%◌, nat_lt, inl, inr, true, false, if◌then◌else◌, List, [], ◌∷◌, ◌++◌, length, get_or, refl, ap, arith, ◌∙◌, sym, subst}
 use Rattle.std.proofs.lemmas.Bool.{cases_lt}
 use Rattle.std.proofs.lemmas.Bool.Decides.{nat_tests}
 use Rattle.std.proofs.lemmas.List.{length_push}
 use Rattle.std.proofs.lemmas.Option.{slice_get_within, slice_get-get_or, get_or_from_slice_get}
 use Rattle.std.proofs.lemmas.Grind.{elements}
 use Rattle.ck_script.specs.declared.rows.Row.{Row}
-use Rattle.ck_script.specs.Columns.{ahead_after, ahead_at, AreAscending, AreJumps, AreMore, kind_of, number_in, row_at, rows_of, AreWithin, AreRowsKept}
+use Rattle.ck_script.specs.Columns.{ahead_after, ahead_at, AreJumps, AreMore, kind_of, number_in, row_at, rows_of, AreWithin, AreRowsKept}
 
 le_true : (a b : ℕ) → a ≤ b → nat_le a b ≡ true
 le_true a b le = grind (arith, nat_tests)

@@ -6,6 +6,7 @@ pub mod Circles
 pub mod Meaning
 pub mod Shorts
 pub mod Prefixes
+mod Viewing
 mod Verbs
 mod Columns
 mod Keeping

@@ -1,4 +1,4 @@
--- What a script file says, and what is wrong with the first line that is outside the grammar.
+-- What a script file says, and what is wrong with the first line that is outside the grammar. Lists have a file of their own.
 use Rattle.std.specs.Prelude.{◌≡◌, ◌≢◌, ℕ, ◌+◌, ◌<◌, ◌^◌, ◌⊎◌, List, [], ◌∷◌, ◌++◌, length, MatchOption, codes, decimal}
 use Rattle.std.specs.Map.{lookup}
 use Rattle.std.specs.Str.{bytes_eq}
@@ -92,51 +92,84 @@ module _ {K : Type 0} (IsKey : K → Type 0) (spelling : K → List ℕ) (IsKeyF
   HasFault verbs [] why = ⊥
   HasFault verbs (verb ∷ ws) why = MatchOption (lookup (bytes_eq verb) verbs) (why ≡ Verb) (λ wanted. HasArgumentFault wanted ws why)
 
--- the words of lines, where `spelling` spells keys
+-- the words of a line of an update file, where these are those of a call
+abbrev pub up_words : {C : Type 0} → (C → List (List ℕ)) → UpLine C → List (List ℕ)
+up_words call_words (Call call) = call_words call
+up_words call_words (Hold file count) = codes "hold" ∷ decimal file ∷ decimal count ∷ []
+
+-- .. of a line of a query file, where these are those of a query
+abbrev pub ask_words : {A : Type 0} → (A → List (List ℕ)) → AskLine A → List (List ℕ)
+ask_words words_of (Ask ask) = words_of ask
+ask_words words_of (Wait count) = codes "wait" ∷ decimal count ∷ []
+
+-- the lines of an update file that are taken, where these calls are: counts have 64 bits
+abbrev pub IsUpLine : {C : Type 0} → (C → Type 0) → UpLine C → Type 0
+IsUpLine IsCall (Call call) = IsCall call
+IsUpLine IsCall (Hold file count) = (file < 2 ^ 64) × (count < 2 ^ 64)
+
+-- .. of a query file, where these queries are
+abbrev pub IsAskLine : {A : Type 0} → (A → Type 0) → AskLine A → Type 0
+IsAskLine IsAsk (Ask ask) = IsAsk ask
+IsAskLine IsAsk (Wait count) = count < 2 ^ 64
+
+-- the verbs of an update file with what follows them, beside those of calls
+abbrev pub up_verbs : List (List ℕ × List Argument) → List (List ℕ × List Argument)
+up_verbs calls = (codes "hold", number ∷ number ∷ []) ∷ calls
+
+-- .. of a query file, beside those of queries
+abbrev pub ask_verbs : List (List ℕ × List Argument) → List (List ℕ × List Argument)
+ask_verbs asks = (codes "wait", number ∷ []) ∷ asks
+
+-- maps, where `spelling` spells keys
 module _ {K : Type 0} (spelling : K → List ℕ) where
-  -- the words of an update line
+  -- the words of an update
+  abbrev pub map_call_words : Update K → List (List ℕ)
+  map_call_words (Set k v) = codes "set" ∷ spelling k ∷ decimal v ∷ []
+  map_call_words (Put k v) = codes "put" ∷ spelling k ∷ decimal v ∷ []
+  map_call_words (Del k) = codes "del" ∷ spelling k ∷ []
+  map_call_words Tidy = codes "tidy" ∷ []
+
+  -- .. of a query
+  abbrev pub map_ask_words : K → List (List ℕ)
+  map_ask_words k = codes "get" ∷ spelling k ∷ []
+
   abbrev pub update_words : UpLine (Update K) → List (List ℕ)
-  update_words (Call (Set k v)) = codes "set" ∷ spelling k ∷ decimal v ∷ []
-  update_words (Call (Put k v)) = codes "put" ∷ spelling k ∷ decimal v ∷ []
-  update_words (Call (Del k)) = codes "del" ∷ spelling k ∷ []
-  update_words (Call Tidy) = codes "tidy" ∷ []
-  update_words (Hold file count) = codes "hold" ∷ decimal file ∷ decimal count ∷ []
+  update_words line = up_words map_call_words line
 
-  -- the words of a line of a query file
   abbrev pub query_words : AskLine K → List (List ℕ)
-  query_words (Ask k) = codes "get" ∷ spelling k ∷ []
-  query_words (Wait count) = codes "wait" ∷ decimal count ∷ []
+  query_words line = ask_words map_ask_words line
 
--- the lines that are taken
+-- .. and these are keys
 module _ {K : Type 0} (IsKey : K → Type 0) where
-  -- keys are keys and numbers have 64 bits; a `hold` line isn't taken yet
+  -- keys are keys, and values have 64 bits
+  abbrev pub IsMapCall : Update K → Type 0
+  IsMapCall (Set k v) = IsKey k × (v < 2 ^ 64)
+  IsMapCall (Put k v) = IsKey k × (v < 2 ^ 64)
+  IsMapCall (Del k) = IsKey k
+  IsMapCall Tidy = Unit {0}
+
   abbrev pub IsUpdateLine : UpLine (Update K) → Type 0
-  IsUpdateLine (Call (Set k v)) = IsKey k × (v < 2 ^ 64)
-  IsUpdateLine (Call (Put k v)) = IsKey k × (v < 2 ^ 64)
-  IsUpdateLine (Call (Del k)) = IsKey k
-  IsUpdateLine (Call Tidy) = Unit {0}
-  IsUpdateLine (Hold file count) = ⊥
+  IsUpdateLine line = IsUpLine IsMapCall line
 
-  -- the same of a query file
   abbrev pub IsQueryLine : AskLine K → Type 0
-  IsQueryLine (Ask k) = IsKey k
-  IsQueryLine (Wait count) = count < 2 ^ 64
+  IsQueryLine line = IsAskLine IsKey line
 
--- the verbs of update files that are taken, with what follows them
-abbrev pub update_verbs : List (List ℕ × List Argument)
-update_verbs =
+abbrev pub map_call_verbs : List (List ℕ × List Argument)
+map_call_verbs =
     (codes "set", key ∷ number ∷ [])
     ∷ (codes "put", key ∷ number ∷ [])
     ∷ (codes "del", key ∷ [])
     ∷ (codes "tidy", [])
     ∷ []
 
--- the verbs of query files that are taken
+abbrev pub map_ask_verbs : List (List ℕ × List Argument)
+map_ask_verbs = (codes "get", key ∷ []) ∷ []
+
+abbrev pub update_verbs : List (List ℕ × List Argument)
+update_verbs = up_verbs map_call_verbs
+
 abbrev pub query_verbs : List (List ℕ × List Argument)
-query_verbs =
-    (codes "get", key ∷ [])
-    ∷ (codes "wait", number ∷ [])
-    ∷ []
+query_verbs = ask_verbs map_ask_verbs
 
 -- the fact, where the script wasn't refused for want of memory
 abbrev pub IfFault : ScriptError → (ScriptFault → Type 0) → Type 0

@@ -1,5 +1,5 @@
 -- How a table's key is spelt, and what is wrong with a word that spells none.
-use Rattle.std.specs.Prelude.{◌≡◌, ℕ, ◌<◌, ◌^◌, ◌-◌, ◌⊎◌, List, decimal, refl}
+use Rattle.std.specs.Prelude.{◌≡◌, ℕ, ◌^◌, ◌-◌, ◌⊎◌, List, decimal, refl}
 use Rattle.std.proofs.Common.{inl, inr, arith, lit<}
 use Rattle.ck_history.specs.Key.{IsKey}
 use Rattle.ck_text.specs.Words.{IsWord}

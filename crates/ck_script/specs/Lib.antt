@@ -1,9 +1,11 @@
 pub mod Grammar
 pub mod Keys
+pub mod ListGrammar
 pub mod Script
 pub mod Reading
 pub mod Faultless
 pub mod Checks
+pub mod Views
 pub mod Fronts
 pub mod Unique
 pub mod Shorts

@@ -49,6 +49,22 @@ pub fn only_number<K: KeyWord>(rest: Option<&[u8]>) -> Result<u64, Why>
     }
 }
 
+/// The two numbers that stand after a verb.
+pub fn two_numbers<K: KeyWord>(rest: Option<&[u8]>) -> Result<(u64, u64), Why>
+    ensures { MatchResult result
+        (λ x. (x.0 < 2 ^ 64) × (x.1 < 2 ^ 64) × (words_after rest.entry ≡ decimal x.0 ∷ decimal x.1 ∷ []))
+        (HasArgumentFault K.is_key K.spelling K.is_fault (number ∷ number ∷ []) (words_after rest.entry)) }
+{
+    match two_words(rest) {
+        None => Err(Why::Shape),
+        Some((first, second)) => {
+            let a = read_number(first).ok_or(Why::Number)?;
+            let b = read_number(second).ok_or(Why::Number)?;
+            Ok((a, b))
+        }
+    }
+}
+
 /// Whether nothing stands after a verb.
 pub fn no_word(rest: Option<&[u8]>) -> Result<(), Why>
     ensures { MatchResult result

@@ -10,9 +10,11 @@ mod fault;
 mod key_word;
 mod line;
 mod lines;
+mod list_line;
 mod read;
 mod rows;
 mod script_line;
+mod views;
 
 pub use check::{RangeFault, check_ranges};
 pub use circle::check_circles;
@@ -21,7 +23,11 @@ pub use fault::{ScriptError, ScriptFault, Why};
 pub use key_word::KeyWord;
 pub use line::{AskLine, Numbered, UpLine};
 pub use lines::Lines;
-pub use read::{read_queries, read_updates, scan_queries, scan_updates};
+pub use read::{
+    read_edits, read_queries, read_updates, read_views, scan_edits, scan_queries, scan_updates,
+    scan_views,
+};
+pub use views::{MOST_VIEWS, check_views};
 
 #[cfg(test)]
 mod tests;

@@ -3,13 +3,14 @@ ghost use Rattle.std.specs.List.{list_any};
 ghost use Rattle.ck_script.specs.declared.fault.ScriptError.TheVariants.{Memory};
 ghost use Rattle.ck_script.specs.Fronts.{is_wait, any_hold};
 ghost use Rattle.ck_script.specs.Grammar.{FileSays, IsFirstFault, IfFault, Adds, HasFault, update_words, IsUpdateLine, update_verbs, query_words, IsQueryLine, query_verbs};
+ghost use Rattle.ck_script.specs.ListGrammar.{edit_words, IsEditLine, edit_verbs, view_words, IsViewLine, view_verbs, HasListFault};
 ghost use Rattle.ck_script.specs.Reading.{IsFaultyFirstLine, IsFaultyLine, TakesLine};
 
 use crate::fault::{ScriptError, ScriptFault, Why};
 use crate::key_word::KeyWord;
 use crate::line::{AskLine, Numbered, UpLine};
 use crate::script_line::ScriptLine;
-use ck_history::Update;
+use ck_history::{Edit, Update};
 use ck_text::first_line;
 use std::alloc::{AllocError, Global};
 
@@ -65,6 +66,52 @@ pub fn scan_queries<K: KeyWord>(
     ensures waits { IfOk result (λ x. x.1 ≡ list_any (λ l. is_wait l.what) x.0.items) }
     ensures fault { IfErr result (λ error. IfFault error
         (IsFirstFault (IsQueryLine K.is_key) (query_words K.spelling) (HasFault K.is_key K.spelling K.is_fault query_verbs) bytes.now)) }
+{
+    read_lines(alloc, bytes)
+}
+
+/// What the lines of an update file of a list say, in order, blank lines and comments left out. A file says at most one thing.
+pub fn read_edits(alloc: Global, bytes: &[u8]) -> Result<Vec<Numbered<UpLine<Edit>>>, ScriptError>
+    ensures read { IfOk result (λ said. FileSays IsEditLine edit_words bytes.now said.items) }
+    ensures only { IfOk result (λ said. (other : _) → FileSays IsEditLine edit_words bytes.now other → other ≡ said.items) }
+    ensures fault { IfErr result (λ error. IfFault error (IsFirstFault IsEditLine edit_words (HasListFault edit_verbs) bytes.now)) }
+{
+    let (said, _) = scan_edits(alloc, bytes)?;
+    Ok(said)
+}
+
+/// What the lines of a query file of a list say, in order, blank lines and comments left out. A file says at most one thing.
+pub fn read_views(alloc: Global, bytes: &[u8]) -> Result<Vec<Numbered<AskLine<()>>>, ScriptError>
+    ensures read { IfOk result (λ said. FileSays IsViewLine view_words bytes.now said.items) }
+    ensures only { IfOk result (λ said. (other : _) → FileSays IsViewLine view_words bytes.now other → other ≡ said.items) }
+    ensures fault { IfErr result (λ error. IfFault error (IsFirstFault IsViewLine view_words (HasListFault view_verbs) bytes.now)) }
+{
+    let (said, _) = scan_views(alloc, bytes)?;
+    Ok(said)
+}
+
+/// What `read_edits` reads, and whether a line of it is a `hold`.
+pub fn scan_edits(
+    alloc: Global,
+    bytes: &[u8],
+) -> Result<(Vec<Numbered<UpLine<Edit>>>, bool), ScriptError>
+    ensures read { IfOk result (λ x. FileSays IsEditLine edit_words bytes.now x.0.items) }
+    ensures only { IfOk result (λ x. (other : _) → FileSays IsEditLine edit_words bytes.now other → other ≡ x.0.items) }
+    ensures holds { IfOk result (λ x. x.1 ≡ any_hold x.0.items) }
+    ensures fault { IfErr result (λ error. IfFault error (IsFirstFault IsEditLine edit_words (HasListFault edit_verbs) bytes.now)) }
+{
+    read_lines(alloc, bytes)
+}
+
+/// What `read_views` reads, and whether a line of it is a `wait`.
+pub fn scan_views(
+    alloc: Global,
+    bytes: &[u8],
+) -> Result<(Vec<Numbered<AskLine<()>>>, bool), ScriptError>
+    ensures read { IfOk result (λ x. FileSays IsViewLine view_words bytes.now x.0.items) }
+    ensures only { IfOk result (λ x. (other : _) → FileSays IsViewLine view_words bytes.now other → other ≡ x.0.items) }
+    ensures waits { IfOk result (λ x. x.1 ≡ list_any (λ l. is_wait l.what) x.0.items) }
+    ensures fault { IfErr result (λ error. IfFault error (IsFirstFault IsViewLine view_words (HasListFault view_verbs) bytes.now)) }
 {
     read_lines(alloc, bytes)
 }

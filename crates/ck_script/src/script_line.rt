@@ -3,7 +3,9 @@ ghost use Rattle.ck_script.specs.Grammar.{Says};
 ghost use Rattle.ck_script.specs.Reading.{HasLinePrefix};
 ghost use Rattle.ck_text.specs.Words.{words};
 
-use crate::arguments::{key_and_number, key_prefix, no_word, only_key, only_number, pair_prefix};
+use crate::arguments::{
+    key_and_number, key_prefix, no_word, only_key, only_number, pair_prefix, two_numbers,
+};
 use crate::fault::Why;
 use crate::key_word::KeyWord;
 use crate::line::{AskLine, UpLine};
@@ -103,6 +105,9 @@ impl<K: KeyWord> ScriptLine for UpLine<Update<K>> {
         } else if verb == b"tidy".as_slice() {
             no_word(rest)?;
             Ok(UpLine::Call(Update::Tidy))
+        } else if verb == b"hold".as_slice() {
+            let (file, n) = two_numbers::<K>(rest)?;
+            Ok(UpLine::Hold { file, n })
         } else {
             Err(Why::Verb)
         }

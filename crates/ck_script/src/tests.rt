@@ -1,5 +1,6 @@
 use super::*;
-use ck_history::{Key, Update};
+use ck_history::{Edit, Key, Update};
+use std::alloc::Global;
 use std::mem::size_of;
 use std::test::Fail;
 
@@ -42,7 +43,13 @@ fn the_first_fault_of_update_files(rt: HostRuntime) -> Result<(), Fail> {
         ("set 1 2\r\n", Some((1, Why::Number))),
         ("set 1 2\n\r\n", Some((2, Why::Verb))),
         (" tidy", Some((1, Why::Verb))),
-        ("hold 1 1", Some((1, Why::Verb))),
+        ("hold 1 1\nset 1 2\nhold 0 18446744073709551615", None),
+        ("hold 1", Some((1, Why::Shape))),
+        ("hold 1 1 1", Some((1, Why::Shape))),
+        ("hold x 01", Some((1, Why::Number))),
+        ("hold 1 18446744073709551616", Some((1, Why::Number))),
+        ("hold 01 1", Some((1, Why::Number))),
+        ("wait 1", Some((1, Why::Verb))),
         ("\n# set\n\nset 1 2\n#\ndel\nget 1", Some((6, Why::Shape))),
     ];
     for (text, want) in cases {
@@ -313,6 +320,119 @@ fn lines_are_kept_in_rows(rt: HostRuntime) -> Result<(), Fail> {
     for (i, line) in asked.iter().enumerate() {
         assert!(rt; i < asks.len());
         assert_eq!(rt; asks.get(i), *line);
+    }
+    Ok(())
+}
+
+#[test]
+fn the_first_fault_of_update_files_of_lists(rt: HostRuntime) -> Result<(), Fail> {
+    let cases = [
+        (
+            "add 0\nadd 18446744073709551615\ndrop 7\ncommit\nhold 1 0",
+            None,
+        ),
+        ("# a list\n\ncommit", None),
+        ("add", Some((1, Why::Shape))),
+        ("add 1 2", Some((1, Why::Shape))),
+        ("add 01", Some((1, Why::Number))),
+        ("drop 18446744073709551616", Some((1, Why::Number))),
+        ("commit ", Some((1, Why::Shape))),
+        ("add 1\nset 1 2", Some((2, Why::Verb))),
+        ("all", Some((1, Why::Verb))),
+        ("hold 1", Some((1, Why::Shape))),
+        ("hold -1 1", Some((1, Why::Number))),
+    ];
+    for (text, want) in cases {
+        let got = fault_of(read_edits(rt.alloc(), text.as_bytes()))?;
+        assert_eq!(rt; got, want, "{text}");
+    }
+    Ok(())
+}
+
+#[test]
+fn the_first_fault_of_query_files_of_lists(rt: HostRuntime) -> Result<(), Fail> {
+    let cases = [
+        ("all\nwait 0\n\nall", None),
+        ("all 1", Some((1, Why::Shape))),
+        ("all ", Some((1, Why::Shape))),
+        ("wait", Some((1, Why::Shape))),
+        ("wait x", Some((1, Why::Number))),
+        ("all\nget 1", Some((2, Why::Verb))),
+        ("add 1", Some((1, Why::Verb))),
+    ];
+    for (text, want) in cases {
+        let got = fault_of(read_views(rt.alloc(), text.as_bytes()))?;
+        assert_eq!(rt; got, want, "{text}");
+    }
+    Ok(())
+}
+
+#[test]
+fn edits_and_views_have_the_numbers_of_their_lines(rt: HostRuntime) -> Result<(), Fail> {
+    let alloc = rt.alloc();
+    let (edits, holds) = scan_edits(alloc, b"drop 3\n\nhold 2 1\ncommit".as_slice())?;
+    let want = [
+        Numbered {
+            line: 1,
+            what: UpLine::Call(Edit::Drop(3)),
+        },
+        Numbered {
+            line: 3,
+            what: UpLine::Hold { file: 2, n: 1 },
+        },
+        Numbered {
+            line: 4,
+            what: UpLine::Call(Edit::Commit),
+        },
+    ];
+    assert_eq!(rt; edits.as_slice(), want.as_slice());
+    assert!(rt; holds);
+    let (views, waits) = scan_views(alloc, b"#\nall\n".as_slice())?;
+    let want = [Numbered {
+        line: 2,
+        what: AskLine::Ask(()),
+    }];
+    assert_eq!(rt; views.as_slice(), want.as_slice());
+    assert!(rt; !waits);
+    Ok(())
+}
+
+// A file of so many `all` lines, of which `wait 0` stands on every second line.
+fn views_of(alloc: Global, count: u64) -> Result<Vec<Numbered<AskLine<()>>>, Fail> {
+    let mut lines = Vec::new(alloc);
+    for i in 0..count {
+        lines.push(Numbered {
+            line: i.wrapping_mul(2),
+            what: AskLine::Wait { n: 0 },
+        })?;
+        lines.push(Numbered {
+            line: i.wrapping_mul(2).wrapping_add(1),
+            what: AskLine::Ask(()),
+        })?;
+    }
+    Ok(lines)
+}
+
+#[test]
+fn one_view_too_many(rt: HostRuntime) -> Result<(), Fail> {
+    let alloc = rt.alloc();
+    let cases = [
+        (1000, 0, 0, None),
+        (1001, 5, 0, Some((1, 2001))),
+        (999, 1, 0, None),
+        (999, 1, 3, Some((3, 1))),
+        (500, 0, 501, Some((3, 1001))),
+    ];
+    for (a, b, c, want) in cases {
+        let asks = [
+            views_of(alloc, a)?,
+            views_of(alloc, b)?,
+            views_of(alloc, c)?,
+        ];
+        assert_eq!(rt;
+            check_views(asks.as_slice()).map(|x| (x.file, x.line)),
+            want
+        );
     }
     Ok(())
 }

@@ -1,9 +1,9 @@
 //! Word lists, and what they ask for.
-use super::{Command, JudgeCommand, TableCommand, read_words};
+use super::{Command, JudgeCommand, Kind, RunCommand, read_words};
 use std::alloc::{AllocError, Global};
 
-// The words, and what they ask for: the seed, the workers and the files of a run over a table.
-const TABLES: &[(&[&str], &str)] = &[
+// The words, and what they ask for: the kind where it isn't a table, the seed, the workers and the files of a run.
+const RUNS: &[(&[&str], &str)] = &[
     (&[], "usage"),
     (&[""], "usage"),
     (&["table"], "usage"),
@@ -16,6 +16,13 @@ const TABLES: &[(&[&str], &str)] = &[
     (&["--seed=1", "table", "u", "q"], "usage"),
     (&["names", "u", "q"], "usage"),
     (&["list", "--fold", "u", "q"], "usage"),
+    (&["list", "u", "q"], "list 0 4 u q"),
+    (
+        &["list", "--seed=7", "u", "--workers", "2", "q", "r"],
+        "list 7 2 u q r",
+    ),
+    (&["list", "u"], "usage"),
+    (&["List", "u", "q"], "usage"),
     (&["--help"], "usage"),
     (&["--version"], "usage"),
     // options before, between and after the files
@@ -133,7 +140,7 @@ fn asked(alloc: Global, words: &[&str]) -> Result<String, AllocError> {
     match read_words(alloc, &owned)? {
         None => String::from_str(alloc, "usage"),
         Some(Command::Make { seed, lines }) => format!(in alloc; "make {seed} {lines}"),
-        Some(Command::Table(command)) => table_asked(alloc, &command),
+        Some(Command::Run(command)) => run_asked(alloc, &command),
         Some(Command::Judge(command)) => judgment_asked(alloc, &command),
     }
 }
@@ -148,9 +155,17 @@ fn judgment_asked(alloc: Global, command: &JudgeCommand) -> Result<String, Alloc
     Ok(text)
 }
 
-// The same of a run over a table.
-fn table_asked(alloc: Global, command: &TableCommand) -> Result<String, AllocError> {
-    let mut text = format!(in alloc; "{} {} {}", command.seed, command.workers, command.updates)?;
+// The same of a run of files.
+fn run_asked(alloc: Global, command: &RunCommand) -> Result<String, AllocError> {
+    let kind = if command.kind == Kind::List {
+        "list "
+    } else {
+        ""
+    };
+    let mut text = format!(in alloc;
+        "{kind}{} {} {}",
+        command.seed, command.workers, command.updates
+    )?;
     for query in &command.queries {
         text.push(' ')?;
         text.push_str(query)?;
@@ -172,8 +187,8 @@ fn files(
 }
 
 #[test]
-fn what_a_table_asks_for(rt: HostRuntime) -> Result<(), AllocError> {
-    for (words, wanted) in TABLES {
+fn what_a_run_asks_for(rt: HostRuntime) -> Result<(), AllocError> {
+    for (words, wanted) in RUNS {
         assert_eq!(rt; asked(rt.alloc(), words)?.as_str(), *wanted, "at {words:?}");
     }
     Ok(())

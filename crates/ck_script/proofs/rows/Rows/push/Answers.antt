@@ -1,5 +1,5 @@
-use Rattle.std.proofs.Common.{◌≡◌, ◌∙◌, ◌++◌, ◌∷◌, [], length, ap, sym, refl, arith}
-use Rattle.ck_script.specs.Columns.{rows_of, AreMore}
+use Rattle.std.proofs.Common.{◌≡◌, ◌∙◌, length, refl, arith}
+use Rattle.ck_script.specs.Columns.{AreMore}
 use Rattle.ck_script.proofs.Columns.{rows_still, kept_still, kept_after, rows_ok, rows_err, err_always}
 use Rattle.ck_script.proofs.rows.Rows.push.Goals as goal
 
