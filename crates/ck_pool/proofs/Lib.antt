@@ -1,8 +1,8 @@
 mod Running
 mod Taking
-mod Files
+pub mod Files
 mod Dequeuing
-mod Opening
-mod Composing
+pub mod Opening
+pub mod Composing
 pub mod MapJobs
 mod Snapping

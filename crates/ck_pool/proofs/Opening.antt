@@ -15,9 +15,10 @@ use Rattle.ck_script.specs.Script.{said_of, updates, queries}
 use Rattle.ck_script.specs.Checks.{is_hold_beyond, first_fault, first_wait_beyond, range_fault}
 use Rattle.ck_pool.specs.Limits.{most_query_files}
 use Rattle.ck_pool.specs.declared.query_run.QueryRun.{QueryRun}
-use Rattle.ck_pool.specs.Meaning.{EyeMeaning}
+use Rattle.ck_history.specs.declared.event.WriterEvent.{WriterEvent}
+use Rattle.ck_pool.specs.Meaning.{HandMeaning, EyeMeaning}
 use Rattle.ck_pool.specs.Runs.{HoldsReader, HoldReaders}
-use Rattle.ck_pool.specs.Served.{AreServed, AreInOrder, AreReady, lines_of}
+use Rattle.ck_pool.specs.Served.{LineFits, WillFit, AreServed, AreInOrder, AreReady, lines_of}
 use Rattle.ck_pool.specs.Working.{IsQueryRun, numbers_below}
 use Rattle.ck_pool.proofs.Running.{some_same}
 use Rattle.ck_pool.proofs.Files.{each_all, take_get, served_snoc, served_is}
@@ -112,6 +113,15 @@ pub in_range_readers : {C A : Type 0} (ups : List (Numbered (UpLine C))) (asks :
 in_range_readers ups asks readers le none =
     hold_readers (map said_of asks) readers (let same = map_long said_of asks in omega (arith, le, same)) ups
     (absent_before _ _ (first_absent (first_fault (is_hold_beyond (map said_of asks)) 0 ups) (first_wait_beyond (length (updates (said_of ups))) 1 asks) none))
+
+-- a dictionary that has room for every call has it for each line
+module _ {H C R : Type 0} (hands : HandMeaning H C R) (room : (w : H) (c : C) → hands.fits w c) where
+  line_fits : (w : H) (l : UpLine C) → LineFits hands w l
+  line_fits w (Call c) = room w c
+  line_fits w (Hold f n) = tt
+
+  pub all_fit : (given : H) (lines : List (Numbered (UpLine C))) → WillFit hands given lines
+  all_fit given lines i line is w events replies is_ready grown ran = line_fits w line.what
 
 -- eyes that are numbered in order
 module _ {E A B : Type 0} (meaning : EyeMeaning E A B) where

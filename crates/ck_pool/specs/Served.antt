@@ -1,11 +1,12 @@
 -- What `serve` asks of a job, and what it tells of it.
-use Rattle.std.specs.Prelude.{◌≡◌, ℕ, ◌+◌, ◌<◌, List, [], ◌∷◌, ◌++◌, length, Some, Vec, slice_get}
+use Rattle.std.specs.Prelude.{◌≡◌, ℕ, ◌+◌, ◌<◌, List, [], ◌∷◌, ◌++◌, length, take, Some, Vec, slice_get}
 use Rattle.std.specs.declared.alloc.Global.{Global}
 use Rattle.ck_history.specs.declared.event.WriterEvent.{WriterEvent}
 use Rattle.ck_history.specs.declared.event.ReaderEvent.{ReaderEvent}
 use Rattle.ck_run.specs.Ends.{EachFrom}
 use Rattle.ck_script.specs.declared.line.Numbered.{Numbered}
 use Rattle.ck_script.specs.declared.line.UpLine.{UpLine}
+use Rattle.ck_script.specs.declared.line.UpLine.TheVariants.{Call, Hold}
 use Rattle.ck_script.specs.declared.line.AskLine.{AskLine}
 use Rattle.ck_pool.specs.Limits.{call_bound, start_call_bound}
 use Rattle.ck_pool.specs.Meaning.{HandMeaning, EyeMeaning}
@@ -26,6 +27,17 @@ module _ {H C R : Type 0} (hands : HandMeaning H C R) where
   abbrev pub IsUpdateFileServed : H → List (Numbered (UpLine C)) → H → List R → Type 0
   IsUpdateFileServed given lines back replies =
       (events : List (WriterEvent C R)) × (hands.done back ≡ hands.done given ++ events) × UpdatesRan lines events replies
+
+  -- there is room for what the line asks for after what was done with the hand
+  abbrev pub LineFits : H → UpLine C → Type 0
+  LineFits w (Call c) = hands.fits w c
+  LineFits w (Hold f n) = Unit {0}
+
+  -- There will be room for each of these lines, once those before it were run with the hand `given`, whatever they were answered
+  abbrev pub WillFit : H → List (Numbered (UpLine C)) → Type 0
+  WillFit given lines =
+      (i : ℕ) (line : Numbered (UpLine C)) → slice_get lines i ≡ Some line
+      → (w : H) (events : List (WriterEvent C R)) (replies : List R) → hands.ready w → hands.done w ≡ hands.done given ++ events → UpdatesRan (take i lines) events replies → LineFits w line.what
 
 module _ {E A B : Type 0} (eyes : EyeMeaning E A B) where
   -- each eye is ready, and few calls were made with it

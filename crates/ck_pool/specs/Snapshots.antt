@@ -1,24 +1,15 @@
 -- What the pool sees of a snapshot dictionary.
-use Rattle.std.specs.Prelude.{◌≡◌, ℕ, List, [], ◌∷◌, length, map, Option, Vec}
-use Rattle.std.specs.Ordering.{nat_cmp}
-use Rattle.std.specs.declared.alloc.Global.{Global}
+use Rattle.std.specs.Prelude.{ℕ, List, [], ◌∷◌, Option}
 use Rattle.ck_history.specs.declared.update.Update.{Update}
 use Rattle.ck_history.specs.declared.update.Reply.{Reply}
-use Rattle.ck_history.specs.Map.{after, answer_after, replies}
-use Rattle.ck_history.specs.Legal.{AllLegal}
-use Rattle.ck_script.specs.declared.line.Numbered.{Numbered}
-use Rattle.ck_script.specs.declared.line.UpLine.{UpLine}
-use Rattle.ck_script.specs.declared.line.AskLine.{AskLine}
-use Rattle.ck_script.specs.Script.{said_of, Script, script_of}
-use Rattle.ck_snap.specs.Log.{Log, most_pairs}
+use Rattle.ck_snap.specs.Log.{Log}
 use Rattle.ck_snap.specs.Places.{ArePlacedIn}
 use Rattle.ck_snap.specs.Tokens.{Dictionary, WriterView, PassView, IsWriterOf, IsPassOf}
-use Rattle.ck_pool.specs.declared.map_results.MapResults.{MapResults}
 use Rattle.ck_pool.specs.Meaning.{HandMeaning, EyeMeaning}
 
--- what the pool sees of the ends of a snapshot dictionary
+-- what the pool sees of the ends of a snapshot dictionary, in which there is always room
 abbrev pub snap_hand : Dictionary → HandMeaning WriterView (Update ℕ) Reply
-snap_hand snap = record { ready = λ w. IsWriterOf snap w; calls = λ w. w.calls; done = λ w. w.done }
+snap_hand snap = record { ready = λ w. IsWriterOf snap w; calls = λ w. w.calls; done = λ w. w.done; fits = λ w call. Unit {0} }
 
 abbrev pub snap_eye : Dictionary → EyeMeaning PassView ℕ (Option ℕ)
 snap_eye snap = record { ready = λ p. IsPassOf snap p; number = λ p. p.number; calls = λ p. p.calls; done = λ p. p.done }

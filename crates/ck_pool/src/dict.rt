@@ -38,7 +38,7 @@ pub trait Dict: Sync {
     // The number of its readers.
     ghost readers: { Self → ℕ };
 
-    /// Makes an update. The only error is want of memory, and then nothing was done.
+    /// Makes an update for which there is room. The only error is want of memory, and then nothing was done.
     fn update<R: Wait>(
         &self,
         rt: &R,
@@ -48,6 +48,7 @@ pub trait Dict: Sync {
     ) -> Result<Self::Reply, AllocError>
         requires ready { (hands self.now).ready hand.old }
         requires calls { (hands self.now).calls hand.old < call_bound }
+        requires fits { (hands self.now).fits hand.old call.now }
         ensures ready { (hands self.now).ready hand.new }
         ensures calls { (hands self.now).calls hand.new ≤ (hands self.now).calls hand.old + 8 }
         ensures ok { IfOk result (λ reply. (hands self.now).done hand.new ≡ (hands self.now).done hand.old ++ Updated call.now reply ∷ []) }

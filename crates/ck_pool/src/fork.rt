@@ -2,7 +2,7 @@
 ghost use Rattle.std.specs.Prelude.{◌≡◌, ◌<◌, ◌≤◌, ◌^◌, ◌++◌, List, length, vec_len, IfOk, All};
 ghost use Rattle.ck_pool.specs.Limits.{most_job_lines, call_bound, start_call_bound};
 ghost use Rattle.ck_pool.specs.Runs.{HoldReaders};
-ghost use Rattle.ck_pool.specs.Served.{IsUpdateFileServed};
+ghost use Rattle.ck_pool.specs.Served.{IsUpdateFileServed, WillFit};
 ghost use Rattle.ck_pool.specs.Working.{AreOnDesk, IsWorker, IsWorked};
 
 use crate::context::Context;
@@ -46,6 +46,7 @@ fn update_or_tell<D: Dict, G: Gate, R: Wait>(
     requires ready { (D.hands context.now.dict.now).ready hand.old }
     requires calls { ((D.hands context.now.dict.now).calls hand.old < start_call_bound) × (length lines.now ≤ most_job_lines) }
     requires readers { HoldReaders (D.readers context.now.dict.now) lines.now }
+    requires fits { WillFit (D.hands context.now.dict.now) hand.old lines.now }
     ensures ready { (D.hands context.now.dict.now).ready hand.new }
     ensures calls { (D.hands context.now.dict.now).calls hand.new < call_bound }
     ensures ran { IfOk result (λ replies. IsUpdateFileServed (D.hands context.now.dict.now) hand.old lines.now hand.new replies.items) }
@@ -100,6 +101,7 @@ pub fn run_both<D: Dict, G: Gate + Sync, R: Threads + Wait + Sync>(
     Result<Vec<Result<Worked<D::Eye, D::Answer>, AllocError>>, AllocError>,
 )
     requires hand { (D.hands context.now.dict.now).ready hand.old × ((D.hands context.now.dict.now).calls hand.old < start_call_bound) × (length ups.now ≤ most_job_lines) × HoldReaders (D.readers context.now.dict.now) ups.now }
+    requires fits { WillFit (D.hands context.now.dict.now) hand.old ups.now }
     requires workers { All (IsWorker desk.now ring.now) workers.items }
     requires files { AreOnDesk (D.eyes context.now.dict.now) desk.now.eyes asks.now }
     ensures hand { (D.hands context.now.dict.now).ready hand.new × ((D.hands context.now.dict.now).calls hand.new < call_bound) }
@@ -108,7 +110,7 @@ pub fn run_both<D: Dict, G: Gate + Sync, R: Threads + Wait + Sync>(
     ensures each { IfOk result.1 (λ v. All (λ one. IfOk one (IsWorked (D.eyes context.now.dict.now) desk.now.eyes asks.now desk.now)) v.items) }
 {
     let mut updates = || -> Result<Vec<D::Reply>, AllocError>
-        requires { (D.hands context.now.dict.now).ready hand.now × ((D.hands context.now.dict.now).calls hand.now < start_call_bound) × (length ups.now ≤ most_job_lines) × HoldReaders (D.readers context.now.dict.now) ups.now }
+        requires { (D.hands context.now.dict.now).ready hand.now × ((D.hands context.now.dict.now).calls hand.now < start_call_bound) × (length ups.now ≤ most_job_lines) × HoldReaders (D.readers context.now.dict.now) ups.now × WillFit (D.hands context.now.dict.now) hand.now ups.now }
         ensures ready { (D.hands context.entry.now.dict.now).ready hand.exit.now }
         ensures calls { (D.hands context.entry.now.dict.now).calls hand.exit.now < call_bound }
         ensures ran { IfOk result (λ replies. IsUpdateFileServed (D.hands context.entry.now.dict.now) hand.entry.now ups.entry.now hand.exit.now replies.items) }

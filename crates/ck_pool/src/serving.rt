@@ -5,7 +5,7 @@ ghost use Rattle.ck_ring.specs.State.{state, size_of};
 ghost use Rattle.ck_script.specs.Checks.{range_fault};
 ghost use Rattle.ck_pool.specs.Limits.{most_job_lines, most_query_files, most_workers, call_bound, start_call_bound};
 ghost use Rattle.ck_pool.specs.Runs.{HoldReaders};
-ghost use Rattle.ck_pool.specs.Served.{AreReady, AreInOrder, IsUpdateFileServed, AreServed, line_total};
+ghost use Rattle.ck_pool.specs.Served.{AreReady, AreInOrder, IsUpdateFileServed, WillFit, AreServed, line_total};
 ghost use Rattle.ck_pool.specs.Desk.{all_parts, IsClerkOf};
 ghost use Rattle.ck_pool.specs.Working.{AreOnDesk, AreEnded, HasRuns, IsWorker, numbers_below};
 
@@ -115,6 +115,7 @@ fn run_tasks<D: Dict, G: Gate + Sync, R: Threads + Wait + Sync>(
     requires files { AreOnDesk (D.eyes context.now.dict.now) eyes.items job.now.asks.items }
     requires lines { length job.now.ups.items ≤ most_job_lines }
     requires readers { HoldReaders (D.readers context.now.dict.now) job.now.ups.items }
+    requires fits { WillFit (D.hands context.now.dict.now) hand.old job.now.ups.items }
     requires consumers { (vec_len consumers ≤ most_workers) × All (λ c. (table c ≡ ring.now) × ((state c).calls ≡ 0)) consumers.items }
     ensures hand { (D.hands context.now.dict.now).ready hand.new × ((D.hands context.now.dict.now).calls hand.new < call_bound) }
     ensures updates { IfOk result (λ served. IsUpdateFileServed (D.hands context.now.dict.now) hand.old job.now.ups.items hand.new served.replies.items) }
@@ -158,6 +159,7 @@ pub fn serve<D: Dict, G: Gate + Sync, R: Threads + Wait + Sync>(
     requires workers { (1 ≤ workers) × (workers ≤ most_workers) }
     requires lines { line_total job.now.ups.items job.now.asks.items ≤ most_job_lines }
     requires ranges { range_fault job.now.ups.items (map (λ file. file.items) job.now.asks.items) ≡ None }
+    requires fits { WillFit (D.hands dict.now) hand.old job.now.ups.items }
     ensures hand { (D.hands dict.now).ready hand.new × ((D.hands dict.now).calls hand.new < call_bound) }
     ensures updates { IfOk result (λ served. IsUpdateFileServed (D.hands dict.now) hand.old job.now.ups.items hand.new served.replies.items) }
     ensures queries { IfOk result (λ served. AreServed (D.eyes dict.now) eyes.items (map (λ file. file.items) job.now.asks.items) served.eyes.items (map (λ file. file.items) served.answers.items)) }

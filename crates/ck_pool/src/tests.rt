@@ -142,6 +142,7 @@ impl<W: Wait + Sync> Dict for TestDict<W> {
       ready = λ hand. Unit {0};
       calls = λ hand. 0;
       done = λ hand. map (elim [ made.Update u r ↦ Updated u r | made.Load reader k ↦ Told reader k ]) hand.events.items;
+      fits = λ hand call. Unit {0};
     } };
 
     ghost eyes = { λ dict. record {

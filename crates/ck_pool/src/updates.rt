@@ -3,7 +3,7 @@ ghost use Rattle.std.specs.Prelude.{◌≡◌, ◌+◌, ◌-◌, ◌<◌, ◌≤
 ghost use Rattle.ck_history.specs.declared.event.WriterEvent.{WriterEvent};
 ghost use Rattle.ck_pool.specs.Limits.{most_job_lines, call_bound, start_call_bound};
 ghost use Rattle.ck_pool.specs.Runs.{answer_loads, UpdateLineRan, UpdatesRan, HoldsReader, HoldReaders};
-ghost use Rattle.ck_pool.specs.Served.{IsUpdateFileServed};
+ghost use Rattle.ck_pool.specs.Served.{IsUpdateFileServed, LineFits, WillFit};
 
 use crate::context::Context;
 use crate::dict::Dict;
@@ -51,6 +51,7 @@ fn run_line<D: Dict, G: Gate, R: Wait>(
     requires ready { (D.hands context.now.dict.now).ready hand.old }
     requires calls { (D.hands context.now.dict.now).calls hand.old < call_bound }
     requires reader { HoldsReader (D.readers context.now.dict.now) line.now }
+    requires fits { LineFits (D.hands context.now.dict.now) hand.old line.now }
     ensures ready { (D.hands context.now.dict.now).ready hand.new }
     ensures calls { (D.hands context.now.dict.now).calls hand.new ≤ (D.hands context.now.dict.now).calls hand.old + 8 }
     ensures ran { IfOk result (λ _. (events : List (WriterEvent D.Call D.Reply)) × (r : List D.Reply)
@@ -76,6 +77,7 @@ pub fn run_updates<D: Dict, G: Gate, R: Wait>(
     requires ready { (D.hands context.now.dict.now).ready hand.old }
     requires calls { ((D.hands context.now.dict.now).calls hand.old < start_call_bound) × (length lines.now ≤ most_job_lines) }
     requires readers { HoldReaders (D.readers context.now.dict.now) lines.now }
+    requires fits { WillFit (D.hands context.now.dict.now) hand.old lines.now }
     ensures ready { (D.hands context.now.dict.now).ready hand.new }
     ensures calls { (D.hands context.now.dict.now).calls hand.new < call_bound }
     ensures ran { IfOk result (λ replies. IsUpdateFileServed (D.hands context.now.dict.now) hand.old lines.now hand.new replies.items) }

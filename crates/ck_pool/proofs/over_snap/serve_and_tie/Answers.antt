@@ -3,8 +3,9 @@ use Rattle.ck_snap.specs.Places.{Writing, log_of_events}
 use Rattle.ck_snap.specs.Tokens.{WriterView, IsPassOf}
 use Rattle.ck_pool.specs.Limits.{call_bound}
 use Rattle.ck_pool.specs.Runs.{UpdatesRan}
-use Rattle.ck_pool.specs.Snapshots.{snap_eye, AllPlacedIn}
+use Rattle.ck_pool.specs.Snapshots.{snap_hand, snap_eye, AllPlacedIn}
 use Rattle.ck_pool.proofs.Files.{each_all, served_each, served_long}
+use Rattle.ck_pool.proofs.Opening.{all_fit}
 use Rattle.ck_pool.proofs.Snapping.{fresh_ready, fresh_numbered, fresh_unused, snap_replies, snap_pairs, snap_legal}
 use Rattle.ck_pool.proofs.over_snap.serve_and_tie.Goals as goal
 
@@ -13,6 +14,9 @@ serve-requires-clause-eyes g c κs within = (
   fresh_ready c.args.snap.now 0 c.args.passes.items (omega (arith, c.requires.passes.1, c.requires.passes.2, c.args.passes.ok)) c.requires.passes.0,
   fresh_numbered c.args.snap.now 0 c.args.passes.items c.requires.passes.0,
 )
+
+pub serve-requires-clause-fits : goal.serve-requires-clause-fits
+serve-requires-clause-fits g c κs within = all_fit (snap_hand c.args.snap.now) (λ w call. tt) c.args.hand.now c.args.job.now.ups.items
 
 pub tie_all-requires-clause-passes : goal.tie_all-requires-clause-passes
 tie_all-requires-clause-passes g c =
@@ -40,5 +44,5 @@ returns-clause-answered g c =
       replied = snap_replies c.args.snap.now ups done rs ran c.in_ok-pairs.ensures.current.replies;
       legal = snap_legal c.args.snap.now ups done rs ran c.args.passes.items (map (λ file. file.items) c.args.job.now.asks.items) eyes (map (λ file. file.items) c.in_ok-served.served.answers.items) c.requires.no_hold
           (fresh_unused c.args.snap.now 0 c.args.passes.items c.requires.passes.0) c.in_ok-served.ensures.queries tied;
-      paired = c.in_ok-pairs.ensures.pairs ∙ snap_pairs c.args.snap.now ups done rs ran;
+      final = c.in_ok-pairs.ensures.pairs ∙ snap_pairs c.args.snap.now ups done rs ran;
     }

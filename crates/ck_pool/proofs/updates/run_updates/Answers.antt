@@ -2,11 +2,16 @@ use Rattle.std.proofs.Common.{◌≡◌, ◌+◌, ◌∙◌, [], ◌∷◌, ◌+
 use Rattle.ck_script.specs.declared.line.Numbered.{Numbered}
 use Rattle.ck_script.specs.declared.line.UpLine.{UpLine}
 use Rattle.ck_pool.specs.Runs.{HoldsReader}
-use Rattle.ck_pool.proofs.Running.{updates_snoc, within_at, take_one_more}
+use Rattle.ck_pool.proofs.Running.{updates_snoc, within_at, take_one_more, get_at}
 use Rattle.ck_pool.proofs.updates.run_updates.Goals as goal
 
 pub run_line-requires-clause-reader : goal.run_line-requires-clause-reader
 run_line-requires-clause-reader g c κs within = subst (λ (l : Numbered (UpLine g.row.D-Call.Denot)). HoldsReader (g.D.Dict.readers c.args.context.now.dict.now) l.what) (sym c.index-lines-i.is) (within_at (g.D.Dict.readers c.args.context.now.dict.now) c.args.lines.now c.loop-i.i c.index-lines-i.result c.loop-i-test.true c.requires.readers)
+
+pub run_line-requires-clause-fits : goal.run_line-requires-clause-fits
+run_line-requires-clause-fits g c κs within =
+    let inv = c.loop-i.invariant in
+    c.requires.fits c.loop-i.i c.index-lines-i.result (get_at c.args.lines.now c.loop-i.i c.index-lines-i.result c.loop-i-test.true c.index-lines-i.is) c.loop-i.hand inv.ran.0 c.loop-i.replies.items inv.ready inv.ran.1 inv.ran.2
 
 pub loop-i-preserved : goal.loop-i-preserved
 loop-i-preserved g c =

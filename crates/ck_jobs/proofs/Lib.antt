@@ -1,0 +1,7 @@
+mod Placing
+mod Ends
+mod Ascending
+mod Bringing
+mod Lines
+mod Tables
+mod Arrays

@@ -1,0 +1,9 @@
+use Rattle.std.proofs.Common.{ap}
+use Rattle.ck_run.specs.Tokens.{table}
+use Rattle.ck_jobs.proofs.Ends.{kept_writer}
+use Rattle.ck_jobs.proofs.on_array.OnArrayDict.answered.Goals as goal
+
+pub returns-clause-ready : goal.returns-clause-ready
+returns-clause-ready g c =
+    let same = c.answered.ensures.step in
+    kept_writer _ _ _ _ c.args.self.now.array c.args.hand.now.writer c.answered.new.w.writer (ap (λ w. table w.token) same) (ap (λ w. w.handler) same) c.requires.ready
