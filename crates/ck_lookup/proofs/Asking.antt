@@ -5,7 +5,7 @@ use Rattle.ck_script.specs.declared.line.AskLine.TheVariants.{Ask, Wait}
 use Rattle.ck_script.specs.Script.{HoldLine, queries, bounded, bounded_files}
 use Rattle.ck_report.specs.declared.asked.Asked.{Asked}
 use Rattle.ck_report.specs.Pairing.{asked_lines, asked_of_files}
-use Rattle.ck_lookup.specs.Headline.{asked, all_asked}
+use Rattle.ck_lookup.specs.Tables.{asked, all_asked}
 
 -- they are paired as they are printed
 asked_as : (count f i : ℕ) (hs : List HoldLine) (low : ℕ) (ls : List (AskLine ℕ)) (bs : List (Option ℕ)) → asked (bounded count hs f i (queries low ls)) bs ≡ asked_lines ls bs

@@ -2,14 +2,13 @@
 use Rattle.std.proofs.Common.{◌≡◌, ℕ, ◌+◌, ◌≤◌, List, [], ◌∷◌, length, map, sum_by, Vec, inl, inr, decimal, refl, ap, arith}
 use Rattle.std.specs.declared.alloc.Global.{Global}
 use Rattle.std.proofs.lemmas.List.Sums.{sum_by-cons}
-use Rattle.ck_history.specs.Key.{IsKey}
-use Rattle.ck_history.specs.declared.update.Update.{Update}
 use Rattle.ck_script.specs.declared.line.Numbered.{Numbered}
 use Rattle.ck_script.specs.declared.line.UpLine.{UpLine}
 use Rattle.ck_script.specs.declared.line.AskLine.{AskLine}
 use Rattle.ck_text.specs.Lines.{lines}
-use Rattle.ck_script.specs.Grammar.{Say, FileSays, IsUpdateLine, update_words, IsQueryLine, query_words}
-use Rattle.ck_script.specs.Script.{QueriesSay}
+use Rattle.ck_script.specs.Grammar.{Say, FileSays}
+use Rattle.ck_lookup.specs.Kinds.{Kind}
+use Rattle.ck_script.specs.Script.{AsksSay}
 use Rattle.ck_pool.specs.Served.{lines_of, line_total}
 use Rattle.ck_lookup.specs.Limits.{AreWithin, line_count}
 
@@ -19,24 +18,25 @@ said_short IsTaken spelling n [] said none = let e = ap length none in omega ari
 said_short IsTaken spelling n (line ∷ ls) said (inl (silent, later)) = let h = said_short IsTaken spelling (n + 1) ls said later in omega arith
 said_short IsTaken spelling n (line ∷ ls) said (inr (what, more, is, says, later)) = let h = said_short IsTaken spelling (n + 1) ls more later in let e = ap length is in omega arith
 
-queries_short : (files : List (List ℕ)) (asks : List (Vec (Numbered (AskLine ℕ)) Global)) → QueriesSay IsKey decimal files (map (λ file. file.items) asks) → (length asks ≡ length files) × (lines_of asks ≤ sum_by line_count files)
-queries_short [] [] said = (refl, omega arith)
-queries_short [] (a ∷ asks) said = absurd said
-queries_short (bytes ∷ files) [] said = absurd said
-queries_short (bytes ∷ files) (a ∷ asks) said =
-    let one : length a.items ≤ line_count bytes = said_short (IsQueryLine IsKey) (query_words decimal) 1 (lines bytes) a.items said.0 in
-    let rest = queries_short files asks said.1 in
-    let long = rest.0 in
-    let short = rest.1 in
-    let sum = sum_by-cons line_count bytes files in
-    (omega arith, omega (arith, one, short, sum))
+module _ {C Q : Type 0} (kind : Kind C Q) where
+  queries_short : (files : List (List ℕ)) (asks : List (Vec (Numbered (AskLine Q)) Global)) → AsksSay kind.queries.is_line kind.queries.words files (map (λ file. file.items) asks) → (length asks ≡ length files) × (lines_of asks ≤ sum_by line_count files)
+  queries_short [] [] said = (refl, omega arith)
+  queries_short [] (a ∷ asks) said = absurd said
+  queries_short (bytes ∷ files) [] said = absurd said
+  queries_short (bytes ∷ files) (a ∷ asks) said =
+      let one : length a.items ≤ line_count bytes = said_short kind.queries.is_line kind.queries.words 1 (lines bytes) a.items said.0 in
+      let rest = queries_short files asks said.1 in
+      let long = rest.0 in
+      let short = rest.1 in
+      let sum = sum_by-cons line_count bytes files in
+      (omega arith, omega (arith, one, short, sum))
 
-pub job_short : (update_file : List ℕ) (query_files : List (List ℕ)) (ups : List (Numbered (UpLine (Update ℕ)))) (asks : List (Vec (Numbered (AskLine ℕ)) Global)) → AreWithin (update_file ∷ query_files) → FileSays (IsUpdateLine IsKey) (update_words decimal) update_file ups → QueriesSay IsKey decimal query_files (map (λ file. file.items) asks)
-    → (length asks ≡ length query_files) × (line_total ups asks ≤ 4000000)
-job_short update_file query_files ups asks within ups_said asks_said =
-    let one : length ups ≤ line_count update_file = said_short (IsUpdateLine IsKey) (update_words decimal) 1 (lines update_file) ups ups_said in
-    let rest = queries_short query_files asks asks_said in
-    let short = rest.1 in
-    let sum = sum_by-cons line_count update_file query_files in
-    let all = within.few_lines_in_all in
-    (rest.0, omega (arith, one, short, sum, all))
+  pub job_short : (update_file : List ℕ) (query_files : List (List ℕ)) (ups : List (Numbered (UpLine C))) (asks : List (Vec (Numbered (AskLine Q)) Global)) → AreWithin (update_file ∷ query_files) → FileSays kind.updates.is_line kind.updates.words update_file ups → AsksSay kind.queries.is_line kind.queries.words query_files (map (λ file. file.items) asks)
+      → (length asks ≡ length query_files) × (line_total ups asks ≤ 4000000)
+  job_short update_file query_files ups asks within ups_said asks_said =
+      let one : length ups ≤ line_count update_file = said_short kind.updates.is_line kind.updates.words 1 (lines update_file) ups ups_said in
+      let rest = queries_short query_files asks asks_said in
+      let short = rest.1 in
+      let sum = sum_by-cons line_count update_file query_files in
+      let all = within.few_lines_in_all in
+      (rest.0, omega (arith, one, short, sum, all))

@@ -7,33 +7,31 @@ use Rattle.std.specs.Prelude.{length, slice_get}
 use Rattle.ck_io.specs.Sink.{appended, AppendsPrefix}
 use Rattle.ck_report.specs.declared.put.PutError.TheVariants.{Memory}
 use Rattle.ck_history.specs.Key.{IsKey}
-use Rattle.ck_history.specs.declared.update.Update.{Update}
 use Rattle.ck_script.specs.declared.fault.ScriptFault.{ScriptFault}
 use Rattle.ck_script.specs.declared.line.Numbered.{Numbered}
 use Rattle.ck_script.specs.declared.line.UpLine.{UpLine}
 use Rattle.ck_script.specs.declared.line.AskLine.{AskLine}
-use Rattle.ck_script.specs.Checks.{range_fault}
-use Rattle.ck_script.specs.Grammar.{FileSays, IsUpdateLine, update_words, IsQueryLine, query_words}
+use Rattle.ck_script.specs.Grammar.{FileSays}
 use Rattle.ck_script.specs.Keys.{one_table_key}
-use Rattle.ck_script.specs.Script.{QueriesSay, said_of, script_of}
+use Rattle.ck_script.specs.Script.{AsksSay, said_of, script_of}
 use Rattle.ck_script.proofs.Meaning.{one_update_file, one_query_file}
-use Rattle.ck_script.proofs.Saying.{no_first_fault}
+use Rattle.ck_script.specs.ListGrammar.{IsEditLine, edit_words, IsViewLine, view_words}
+use Rattle.ck_script.specs.Unique.{edit_speaks, view_speaks, one_edit_line, one_view_line}
+use Rattle.ck_script.proofs.Saying.{says_one, no_first_fault}
 use Rattle.ck_lookup.specs.declared.outcome.Outcome.{Outcome}
 use Rattle.ck_lookup.specs.declared.outcome.Outcome.TheVariants.{Done, Usage, ReadFault, BadScript, TooLarge, WriteFault, BadReport, Illegal, NoMemory}
-use Rattle.ck_lookup.specs.Headline.{IsReportOf}
+use Rattle.ck_lookup.specs.Kinds.{Kind}
+use Rattle.ck_lookup.specs.Tables.{table_kind}
+use Rattle.ck_lookup.specs.Headline.{IsReportOf, IsTextOf}
 use Rattle.ck_lookup.specs.Limits.{AreWithin, line_count}
-use Rattle.ck_command.specs.Words.{TableCommand, Command, Table, Make, names}
-use Rattle.ck_lookup.specs.Causes.{Tells, AreRead, AreSaid, AreAccepted, IsBadScript, IsLawful, IsFaultOf, IsTooLarge, HasReport, Outside, MayEndWith, IsClear, IsDoneOrNoMemory}
+use Rattle.ck_command.specs.Words.{Kind as Named, table, list, RunCommand, Command, Run, Make, names}
+use Rattle.ck_lookup.specs.Lists.{list_kind}
+use Rattle.ck_lookup.specs.RunKinds.{kind_of}
+use Rattle.ck_lookup.specs.Causes.{Tells, AreRead, AreSaid, AreAccepted, checks_refusal, IsBadScript, IsLawful, IsFaultOf, IsTooLarge, HasReport, Outside, MayEndWith, IsClear, IsDoneOrNoMemory}
 use Rattle.ck_lookup.specs.Making.{made_text, PutsText}
-use Rattle.ck_lookup.specs.Running.{AreRunnable, IsRefusedScript, IsRefusedFetch, IsRefusedRun, MayBegin, IsTextOf, HasPut}
+use Rattle.ck_lookup.specs.Running.{AreRunnable, IsRefusedScript, IsRefusedFetch, IsRefusedRun, MayBegin, HasPut}
 use Rattle.ck_lookup.proofs.Reporting.{report_is, begins}
 use Rattle.ck_lookup.proofs.Told.{read_told}
-
-abbrev Ups : Type 0
-Ups = List (Numbered (UpLine (Update ℕ)))
-
-abbrev Asks : Type 0
-Asks = List (List (Numbered (AskLine ℕ)))
 
 -- as many files were read as there are names
 pub read_long : {N : Type 0} (told : N → Option (List ℕ)) (names : List N) (files : List (List ℕ)) → AreRead told names files → length files ≡ length names
@@ -51,8 +49,9 @@ module _ (held : List ℕ → Option (List ℕ)) (names : List (List ℕ)) where
       let tail : rs ≡ qs = cc in
       (head, tail)
 
+module _ {C Q : Type 0} (kind : Kind C Q) (held : List ℕ → Option (List ℕ)) (names : List (List ℕ)) where
   -- files that weren't all fetched
-  pub refused_fetch : (before after : List ℕ → ℕ) (o : Outcome) → IsRefusedFetch held names before after o → IsRefusedRun held names before after o
+  pub refused_fetch : (before after : List ℕ → ℕ) (o : Outcome) → IsRefusedFetch held names before after o → IsRefusedRun kind held names before after o
   refused_fetch before after (ReadFault file) refused = refused
   refused_fetch before after (TooLarge file) refused = refused
   refused_fetch before after NoMemory refused = refused
@@ -64,7 +63,7 @@ module _ (held : List ℕ → Option (List ℕ)) (names : List (List ℕ)) where
   refused_fetch before after Illegal refused = absurd refused
 
   -- a refused script
-  pub refused_script : (files : List (List ℕ)) (before after : List ℕ → ℕ) (o : Outcome) (u : List ℕ) (qs : List (List ℕ)) → files ≡ u ∷ qs → AreRead held names files → AreWithin files → after ≡ before → IsRefusedScript u qs o → IsRefusedRun held names before after o
+  pub refused_script : (files : List (List ℕ)) (before after : List ℕ → ℕ) (o : Outcome) (u : List ℕ) (qs : List (List ℕ)) → files ≡ u ∷ qs → AreRead held names files → AreWithin files → after ≡ before → IsRefusedScript kind u qs o → IsRefusedRun kind held names before after o
   refused_script files before after (BadScript file line why) u qs is read within fetched refused = (
     fetched,
     record { update_file = u; query_files = qs; read = subst (AreRead held names) is read; within = subst AreWithin is within; first = refused },
@@ -79,7 +78,7 @@ module _ (held : List ℕ → Option (List ℕ)) (names : List (List ℕ)) where
   refused_script files before after Illegal u qs is read within fetched refused = absurd refused
 
   -- scripts that were read
-  pub runnable : (files : List (List ℕ)) (u : List ℕ) (qs : List (List ℕ)) (ups : List (Numbered (UpLine (Update ℕ)))) (asks : List (List (Numbered (AskLine ℕ)))) → files ≡ u ∷ qs → AreRead held names files → AreWithin files → AreSaid u qs ups asks → AreRunnable held names ups asks
+  pub runnable : (files : List (List ℕ)) (u : List ℕ) (qs : List (List ℕ)) (ups : List (Numbered (UpLine C))) (asks : List (List (Numbered (AskLine Q)))) → files ≡ u ∷ qs → AreRead held names files → AreWithin files → AreSaid kind u qs ups asks → AreRunnable kind held names ups asks
   runnable files u qs ups asks is read within said = record {
     update_file = u;
     query_files = qs;
@@ -89,33 +88,33 @@ module _ (held : List ℕ → Option (List ℕ)) (names : List (List ℕ)) where
   }
 
   -- a text of what they ask for is a report
-  pub runnable_report : (ups : List (Numbered (UpLine (Update ℕ)))) (asks : List (List (Numbered (AskLine ℕ)))) (text : List ℕ) → AreRunnable held names ups asks → IsTextOf (script_of (said_of ups) (map said_of asks)) text → HasReport held names text
+  pub runnable_report : (ups : List (Numbered (UpLine C))) (asks : List (List (Numbered (AskLine Q)))) (text : List ℕ) → AreRunnable kind held names ups asks → IsTextOf kind (script_of (said_of ups) (map said_of asks)) text → HasReport kind held names text
   runnable_report ups asks text r is = record {
     update_file = r.update_file;
     query_files = r.query_files;
     read = r.read;
     accepted = record { within = r.within; ups = ups; asks = asks; said = r.said };
-    report = report_is r.update_file r.query_files ups asks text r.said is;
+    report = report_is kind r.update_file r.query_files ups asks text r.said is;
   }
 
   -- where memory ran out, nothing was put, or the front of a report
-  pub memory_ends : (ups : List (Numbered (UpLine (Update ℕ)))) (asks : List (List (Numbered (AskLine ℕ)))) (before after : Option (List ℕ)) (Fetched : Type 0) → AreRunnable held names ups asks → Fetched → HasPut (script_of (said_of ups) (map said_of asks)) before after Memory
-      → (after ≡ before) ⊎ (Fetched × ((text : List ℕ) × HasReport held names text × AppendsPrefix before after text))
+  pub memory_ends : (ups : List (Numbered (UpLine C))) (asks : List (List (Numbered (AskLine Q)))) (before after : Option (List ℕ)) (Fetched : Type 0) → AreRunnable kind held names ups asks → Fetched → HasPut kind (script_of (said_of ups) (map said_of asks)) before after Memory
+      → (after ≡ before) ⊎ (Fetched × ((text : List ℕ) × HasReport kind held names text × AppendsPrefix before after text))
   memory_ends ups asks before after Fetched r fetched (inl same) = inl same
   memory_ends ups asks before after Fetched r fetched (inr (text, is, front)) = inr (fetched, (text, runnable_report ups asks text r is, front))
 
   -- what 1 to 64 query files say may begin
-  pub runnable_begins : (ups : List (Numbered (UpLine (Update ℕ)))) (asks : List (Vec (Numbered (AskLine ℕ)) Global)) → AreRunnable held names ups (map (λ file. file.items) asks) → 2 ≤ length names → length names ≤ 65 → MayBegin ups asks
+  pub runnable_begins : (ups : List (Numbered (UpLine C))) (asks : List (Vec (Numbered (AskLine Q)) Global)) → AreRunnable kind held names ups (map (λ file. file.items) asks) → 2 ≤ length names → length names ≤ 65 → MayBegin ups asks
   runnable_begins ups asks r some few =
       let long : length (r.update_file ∷ r.query_files) ≡ length names = read_long held names (r.update_file ∷ r.query_files) r.read in
-      begins r.update_file r.query_files ups asks r.within r.said (omega (arith, long, some)) (omega (arith, long, few))
+      begins kind r.update_file r.query_files ups asks r.within r.said (omega (arith, long, some)) (omega (arith, long, few))
 
   -- a report of the files that there are is one of the files that are told
-  told_report : (text : List ℕ) (u : List ℕ) (qs : List (List ℕ)) → HasReport held names text → Tells held names u qs → AreAccepted u qs × IsReportOf u qs text
+  told_report : (text : List ℕ) (u : List ℕ) (qs : List (List ℕ)) → HasReport kind held names text → Tells held names u qs → AreAccepted kind u qs × IsReportOf kind u qs text
   told_report text u qs has tells =
-      let same = told_files u qs has.update_file has.query_files has.read tells in (
-        subst (λ q. AreAccepted u q) same.1 (subst (λ v. AreAccepted v has.query_files) same.0 has.accepted),
-        subst (λ q. IsReportOf u q text) same.1 (subst (λ v. IsReportOf v has.query_files text) same.0 has.report),
+      let same = told_files held names u qs has.update_file has.query_files has.read tells in (
+        subst (λ q. AreAccepted kind u q) same.1 (subst (λ v. AreAccepted kind v has.query_files) same.0 has.accepted),
+        subst (λ q. IsReportOf kind u q text) same.1 (subst (λ v. IsReportOf kind v has.query_files text) same.0 has.report),
       )
 
 -- files that were read under names, of which there is one, are one and others
@@ -123,10 +122,11 @@ pub some_read : (held : List ℕ → Option (List ℕ)) (name : List ℕ) (names
 some_read held name names [] read = absurd read
 some_read held name names (f ∷ files) read = (f, files, refl)
 
--- a file in the grammar has no fault
-no_fault : (file : ℕ) (bytes : List ℕ) (fault : ScriptFault) → IsLawful file bytes → IsFaultOf file bytes fault → ⊥
-no_fault zero bytes fault lawful faulty = no_first_fault _ _ _ bytes lawful.0 fault lawful.1 faulty
-no_fault (suc file) bytes fault lawful faulty = no_first_fault _ _ _ bytes lawful.0 fault lawful.1 faulty
+module _ {C Q : Type 0} (kind : Kind C Q) where
+  -- a file in the grammar has no fault
+  no_fault : (file : ℕ) (bytes : List ℕ) (fault : ScriptFault) → IsLawful kind file bytes → IsFaultOf kind file bytes fault → ⊥
+  no_fault zero bytes fault lawful faulty = no_first_fault _ _ _ bytes lawful.0 fault lawful.1 faulty
+  no_fault (suc file) bytes fault lawful faulty = no_first_fault _ _ _ bytes lawful.0 fault lawful.1 faulty
 
 -- all that is told is told of the first files, however many
 tells_first : (held : List ℕ → Option (List ℕ)) (ns ts : List (List ℕ)) (n : ℕ) → map held ns ≡ map Some ts → map held (take n ns) ≡ map Some (take n ts)
@@ -153,39 +153,57 @@ first_of_within files n within = record {
   few_lines_in_all = omega (arith, sum_by-take-le line_count files n, within.few_lines_in_all);
 }
 
--- query files say one thing
-one_queries : (files : List (List ℕ)) (a b : List (List (Numbered (AskLine ℕ)))) → QueriesSay IsKey decimal files a → QueriesSay IsKey decimal files b → a ≡ b
-one_queries [] [] [] says also = refl
-one_queries [] [] (y ∷ b) says also = absurd also
-one_queries [] (x ∷ a) b says also = absurd says
-one_queries (f ∷ files) [] b says also = absurd says
-one_queries (f ∷ files) (x ∷ a) [] says also = absurd also
-one_queries (f ∷ files) (x ∷ a) (y ∷ b) says also =
-    ap (λ z. z ∷ a) (one_query_file IsKey decimal one_table_key f x y says.0 also.0) ∙ ap (λ zs. y ∷ zs) (one_queries files a b says.1 also.1)
+-- a file says one thing
+pub record SaysOneThing {C Q : Type 0} (kind : Kind C Q) : Type 0 where
+  pub updates : (bytes : List ℕ) (a b : List (Numbered (UpLine C))) → FileSays kind.updates.is_line kind.updates.words bytes a → FileSays kind.updates.is_line kind.updates.words bytes b → a ≡ b
+  pub queries : (bytes : List ℕ) (a b : List (Numbered (AskLine Q))) → FileSays kind.queries.is_line kind.queries.words bytes a → FileSays kind.queries.is_line kind.queries.words bytes b → a ≡ b
 
--- each of the files that say something is in the grammar
-lawful_query : (files : List (List ℕ)) (asks : List (List (Numbered (AskLine ℕ)))) (i : ℕ) (bytes : List ℕ) → QueriesSay IsKey decimal files asks → slice_get files i ≡ Some bytes → IsLawful 1 bytes
-lawful_query [] asks i bytes says named = absurd (cc)
-lawful_query (f ∷ files) [] i bytes says named = absurd says
-lawful_query (f ∷ files) (a ∷ asks) zero bytes says named = let same : f ≡ bytes = cc in (a, subst (λ b. FileSays (IsQueryLine IsKey) (query_words decimal) b a) same says.0)
-lawful_query (f ∷ files) (a ∷ asks) (suc i) bytes says named = lawful_query files asks i bytes says.1 named
+one_list : SaysOneThing list_kind
+one_list = record {
+  updates = λ bytes a b. says_one IsEditLine edit_words one_edit_line edit_speaks bytes a b;
+  queries = λ bytes a b. says_one IsViewLine view_words one_view_line view_speaks bytes a b;
+}
 
-lawful_file : (u : List ℕ) (qs : List (List ℕ)) (ups : Ups) (asks : Asks) → AreSaid u qs ups asks → (i : ℕ) (bytes : List ℕ) → slice_get (u ∷ qs) i ≡ Some bytes → IsLawful i bytes
-lawful_file u qs ups asks said zero bytes named = let same : u ≡ bytes = cc in (ups, subst (λ b. FileSays (IsUpdateLine IsKey) (update_words decimal) b ups) same said.updates_said)
-lawful_file u qs ups asks said (suc i) bytes named = lawful_query qs asks i bytes said.queries_said named
+pub one_table : SaysOneThing table_kind
+one_table = record {
+  updates = λ bytes a b. one_update_file IsKey decimal one_table_key bytes a b;
+  queries = λ bytes a b. one_query_file IsKey decimal one_table_key bytes a b;
+}
 
--- scripts say one thing
-pub one_script : (u : List ℕ) (qs : List (List ℕ)) (ups vs : Ups) (asks bs : Asks) → FileSays (IsUpdateLine IsKey) (update_words decimal) u ups → FileSays (IsUpdateLine IsKey) (update_words decimal) u vs → QueriesSay IsKey decimal qs asks → QueriesSay IsKey decimal qs bs → (ups ≡ vs) × (asks ≡ bs)
-one_script u qs ups vs asks bs ups_said vs_said asks_said bs_said = (one_update_file IsKey decimal one_table_key u ups vs ups_said vs_said, one_queries qs asks bs asks_said bs_said)
+module _ {C Q : Type 0} (kind : Kind C Q) where
+  -- query files say one thing
+  one_queries : SaysOneThing kind → (files : List (List ℕ)) (a b : List (List (Numbered (AskLine Q)))) → AsksSay kind.queries.is_line kind.queries.words files a → AsksSay kind.queries.is_line kind.queries.words files b → a ≡ b
+  one_queries one [] [] [] says also = refl
+  one_queries one [] [] (y ∷ b) says also = absurd also
+  one_queries one [] (x ∷ a) b says also = absurd says
+  one_queries one (f ∷ files) [] b says also = absurd says
+  one_queries one (f ∷ files) (x ∷ a) [] says also = absurd also
+  one_queries one (f ∷ files) (x ∷ a) (y ∷ b) says also =
+      ap (λ z. z ∷ a) (one.queries f x y says.0 also.0) ∙ ap (λ zs. y ∷ zs) (one_queries one files a b says.1 also.1)
 
--- files of which nothing is refused have no first fault
-pub no_bad_script : (u : List ℕ) (qs : List (List ℕ)) (ups : Ups) (asks : Asks) (file : ℕ) (fault : ScriptFault) → AreSaid u qs ups asks → IsBadScript u qs file fault → ⊥
-no_bad_script u qs ups asks file fault said (inl bad) = no_fault file bad.bytes fault (lawful_file u qs ups asks said file bad.bytes bad.here) bad.first
-no_bad_script u qs ups asks file fault said (inr beyond) =
-    let same = one_script u qs ups beyond.ups asks beyond.asks said.updates_said beyond.updates_said said.queries_said beyond.queries_said in
-    let none : range_fault beyond.ups beyond.asks ≡ None = subst (λ a. range_fault beyond.ups a ≡ None) same.1 (subst (λ l. range_fault l asks ≡ None) same.0 said.in_range) in
-    let some = beyond.first in
-    absurd (cc)
+  -- each of the files that say something is in the grammar
+  lawful_query : (files : List (List ℕ)) (asks : List (List (Numbered (AskLine Q)))) (i : ℕ) (bytes : List ℕ) → AsksSay kind.queries.is_line kind.queries.words files asks → slice_get files i ≡ Some bytes → IsLawful kind 1 bytes
+  lawful_query [] asks i bytes says named = absurd (cc)
+  lawful_query (f ∷ files) [] i bytes says named = absurd says
+  lawful_query (f ∷ files) (a ∷ asks) zero bytes says named = let same : f ≡ bytes = cc in (a, subst (λ b. FileSays kind.queries.is_line kind.queries.words b a) same says.0)
+  lawful_query (f ∷ files) (a ∷ asks) (suc i) bytes says named = lawful_query files asks i bytes says.1 named
+
+  lawful_file : (u : List ℕ) (qs : List (List ℕ)) (ups : List (Numbered (UpLine C))) (asks : List (List (Numbered (AskLine Q)))) → AreSaid kind u qs ups asks → (i : ℕ) (bytes : List ℕ) → slice_get (u ∷ qs) i ≡ Some bytes → IsLawful kind i bytes
+  lawful_file u qs ups asks said zero bytes named = let same : u ≡ bytes = cc in (ups, subst (λ b. FileSays kind.updates.is_line kind.updates.words b ups) same said.updates_said)
+  lawful_file u qs ups asks said (suc i) bytes named = lawful_query qs asks i bytes said.queries_said named
+
+  -- scripts say one thing
+  pub one_script : SaysOneThing kind → (u : List ℕ) (qs : List (List ℕ)) (ups vs : List (Numbered (UpLine C))) (asks bs : List (List (Numbered (AskLine Q)))) → FileSays kind.updates.is_line kind.updates.words u ups → FileSays kind.updates.is_line kind.updates.words u vs → AsksSay kind.queries.is_line kind.queries.words qs asks → AsksSay kind.queries.is_line kind.queries.words qs bs → (ups ≡ vs) × (asks ≡ bs)
+  one_script one u qs ups vs asks bs ups_said vs_said asks_said bs_said = (one.updates u ups vs ups_said vs_said, one_queries one qs asks bs asks_said bs_said)
+
+  -- files of which nothing is refused have no first fault
+  pub no_bad_script : SaysOneThing kind → (u : List ℕ) (qs : List (List ℕ)) (ups : List (Numbered (UpLine C))) (asks : List (List (Numbered (AskLine Q)))) (file : ℕ) (fault : ScriptFault) → AreSaid kind u qs ups asks → IsBadScript kind u qs file fault → ⊥
+  no_bad_script one u qs ups asks file fault said (inl bad) = no_fault kind file bad.bytes fault (lawful_file u qs ups asks said file bad.bytes bad.here) bad.first
+  no_bad_script one u qs ups asks file fault said (inr refused) =
+      let same = one_script one u qs ups refused.ups asks refused.asks said.updates_said refused.updates_said said.queries_said refused.queries_said in
+      let none : checks_refusal kind refused.ups refused.asks ≡ None = subst (λ a. checks_refusal kind refused.ups a ≡ None) same.1 (subst (λ l. checks_refusal kind l asks ≡ None) same.0 said.checked) in
+      let some = refused.first in
+      absurd (cc)
 
 -- files within the limits have none that is past them
 pub none_too_large : (held : List ℕ → Option (List ℕ)) (ns files : List (List ℕ)) (file : ℕ) → map held ns ≡ map Some files → AreWithin files → IsTooLarge held ns file → ⊥
@@ -193,43 +211,54 @@ none_too_large held ns files file told within large =
     let same : take (file + 1) files ≡ large.earlier ++ large.bytes ∷ [] = read_told held (take (file + 1) ns) (large.earlier ++ large.bytes ∷ []) (take (file + 1) files) large.read (tells_first held ns files (file + 1) told) in
     large.past (subst AreWithin same (first_of_within files (file + 1) within))
 
--- where nothing stands against a whole report, the run is done or finds no memory
-complete : (o : Outside) (ns : List (List ℕ)) (outcome : Outcome) (u : List ℕ) (qs : List (List ℕ)) → MayEndWith o ns outcome → IsClear o ns u qs → IsDoneOrNoMemory outcome
-complete o ns Done u qs ends clear = inl refl
-complete o ns Usage u qs ends clear = absurd ends
-complete o ns (ReadFault file) u qs ends clear = absurd (clear.read ends.0.name ends.0.rose)
-complete o ns (TooLarge file) u qs ends clear = absurd (none_too_large o.held ns (u ∷ qs) file clear.told clear.accepted.within ends.1)
-complete o ns (BadScript file line why) u qs ends clear =
-    let bad = ends.1 in
-    let same = told_files o.held ns u qs bad.update_file bad.query_files bad.read clear.told in
-    let first = subst (λ q. IsBadScript u q file (record { line = line; why = why })) same.1 (subst (λ v. IsBadScript v bad.query_files file (record { line = line; why = why })) same.0 bad.first) in
-    absurd (no_bad_script u qs clear.accepted.ups clear.accepted.asks file (record { line = line; why = why }) clear.accepted.said first)
-complete o ns WriteFault u qs ends clear = absurd (clear.written ends.1)
-complete o ns (BadReport line) u qs ends clear = absurd ends
-complete o ns Illegal u qs ends clear = absurd ends
-complete o ns NoMemory u qs ends clear = inr refl
+module _ {C Q : Type 0} (kind : Kind C Q) where
+  -- where nothing stands against a whole report, the run is done or finds no memory
+  complete : SaysOneThing kind → (o : Outside) (ns : List (List ℕ)) (outcome : Outcome) (u : List ℕ) (qs : List (List ℕ)) → MayEndWith kind o ns outcome → IsClear kind o ns u qs → IsDoneOrNoMemory outcome
+  complete one o ns Done u qs ends clear = inl refl
+  complete one o ns Usage u qs ends clear = absurd ends
+  complete one o ns (ReadFault file) u qs ends clear = absurd (clear.read ends.0.name ends.0.rose)
+  complete one o ns (TooLarge file) u qs ends clear = absurd (none_too_large o.held ns (u ∷ qs) file clear.told clear.accepted.within ends.1)
+  complete one o ns (BadScript file line why) u qs ends clear =
+      let bad = ends.1 in
+      let same = told_files o.held ns u qs bad.update_file bad.query_files bad.read clear.told in
+      let first = subst (λ q. IsBadScript kind u q file (record { line = line; why = why })) same.1 (subst (λ v. IsBadScript kind v bad.query_files file (record { line = line; why = why })) same.0 bad.first) in
+      absurd (no_bad_script kind one u qs clear.accepted.ups clear.accepted.asks file (record { line = line; why = why }) clear.accepted.said first)
+  complete one o ns WriteFault u qs ends clear = absurd (clear.written ends.1)
+  complete one o ns (BadReport line) u qs ends clear = absurd ends
+  complete one o ns Illegal u qs ends clear = absurd ends
+  complete one o ns NoMemory u qs ends clear = inr refl
+
+  -- where the run is done and the shelf tells the files, the sink took a report of them
+  report_told : (o : Outside) (ns : List (List ℕ)) (outcome : Outcome) (u : List ℕ) (qs : List (List ℕ)) → MayEndWith kind o ns outcome → Tells o.held ns u qs → outcome ≡ Done
+      → AreAccepted kind u qs × ((text : List ℕ) × IsReportOf kind u qs text × (o.taken_after ≡ appended o.taken_before text))
+  report_told o ns outcome u qs ends tells done =
+      let whole : MayEndWith kind o ns Done = subst (MayEndWith kind o ns) done ends in
+      let put = whole.1 in
+      let told = told_report kind o.held ns put.0 u qs put.1 tells in
+      (told.0, (put.0, told.1, put.2))
+
+-- a file of any kind says one thing
+one_kind : (named : Named) → SaysOneThing (kind_of named).kind
+one_kind table = one_table
+one_kind list = one_list
 
 -- the same, of a command that the words give
-pub complete_asked : (o : Outside) (words : Option Command) (c asked : TableCommand) (outcome : Outcome) (u : List ℕ) (qs : List (List ℕ)) → words ≡ Some (Table c) → words ≡ Some (Table asked) → MayEndWith o (names c) outcome → IsClear o (names asked) u qs → IsDoneOrNoMemory outcome
+pub complete_asked : (o : Outside) (words : Option Command) (c asked : RunCommand) (outcome : Outcome) (u : List ℕ) (qs : List (List ℕ)) → words ≡ Some (Run c) → words ≡ Some (Run asked) → MayEndWith (kind_of c.kind).kind o (names c) outcome → IsClear (kind_of asked.kind).kind o (names asked) u qs → IsDoneOrNoMemory outcome
 complete_asked o words c asked outcome u qs is also ends clear =
     let same : c ≡ asked = cc in
-    complete o (names asked) outcome u qs (subst (λ k. MayEndWith o (names k) outcome) same ends) clear
+    complete (kind_of asked.kind).kind (one_kind asked.kind) o (names asked) outcome u qs (subst (λ k. MayEndWith (kind_of k.kind).kind o (names k) outcome) same ends) clear
 
--- where the run is done and the shelf tells the files, the sink took a report of them
-report_told : (o : Outside) (ns : List (List ℕ)) (outcome : Outcome) (u : List ℕ) (qs : List (List ℕ)) → MayEndWith o ns outcome → Tells o.held ns u qs → outcome ≡ Done
-    → AreAccepted u qs × ((text : List ℕ) × IsReportOf u qs text × (o.taken_after ≡ appended o.taken_before text))
-report_told o ns outcome u qs ends tells done =
-    let whole : MayEndWith o ns Done = subst (MayEndWith o ns) done ends in
-    let put = whole.1 in
-    let told = told_report o.held ns put.0 u qs put.1 tells in
-    (told.0, (put.0, told.1, put.2))
-
--- the same, of a command that the words give
-pub report_asked : (o : Outside) (words : Option Command) (c asked : TableCommand) (outcome : Outcome) (u : List ℕ) (qs : List (List ℕ)) → words ≡ Some (Table c) → words ≡ Some (Table asked) → MayEndWith o (names c) outcome → Tells o.held (names asked) u qs → outcome ≡ Done
-    → AreAccepted u qs × ((text : List ℕ) × IsReportOf u qs text × (o.taken_after ≡ appended o.taken_before text))
+pub report_asked : (o : Outside) (words : Option Command) (c asked : RunCommand) (outcome : Outcome) (u : List ℕ) (qs : List (List ℕ)) → words ≡ Some (Run c) → words ≡ Some (Run asked) → MayEndWith (kind_of c.kind).kind o (names c) outcome → Tells o.held (names asked) u qs → outcome ≡ Done
+    → AreAccepted (kind_of asked.kind).kind u qs × ((text : List ℕ) × IsReportOf (kind_of asked.kind).kind u qs text × (o.taken_after ≡ appended o.taken_before text))
 report_asked o words c asked outcome u qs is also ends tells done =
     let same : c ≡ asked = cc in
-    report_told o (names asked) outcome u qs (subst (λ k. MayEndWith o (names k) outcome) same ends) tells done
+    report_told (kind_of asked.kind).kind o (names asked) outcome u qs (subst (λ k. MayEndWith (kind_of k.kind).kind o (names k) outcome) same ends) tells done
+
+-- .. which is one command
+pub ends_asked : (o : Outside) (words : Option Command) (c asked : RunCommand) (outcome : Outcome) → words ≡ Some (Run c) → words ≡ Some (Run asked) → MayEndWith (kind_of c.kind).kind o (names c) outcome → MayEndWith (kind_of asked.kind).kind o (names asked) outcome
+ends_asked o words c asked outcome is also ends =
+    let same : c ≡ asked = cc in
+    subst (λ k. MayEndWith (kind_of k.kind).kind o (names k) outcome) same ends
 
 -- the run of a seed, of a command that the words give
 pub made_asked : (words : Option Command) (seed lines asked_seed asked_lines : ℕ) (before after : Option (List ℕ)) (faults_before faults_after : ℕ) (outcome : Outcome) → words ≡ Some (Make seed lines) → words ≡ Some (Make asked_seed asked_lines)

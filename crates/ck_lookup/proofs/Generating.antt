@@ -23,7 +23,7 @@ use Rattle.ck_gen.proofs.Lawful.{said_numbered}
 use Rattle.ck_pool.specs.declared.map_results.MapResults.{MapResults}
 use Rattle.ck_pool.specs.Served.{line_total}
 use Rattle.ck_pool.specs.Results.{job_script, AreMapResults}
-use Rattle.ck_lookup.specs.Headline.{capacity}
+use Rattle.ck_lookup.specs.Tables.{capacity}
 use Rattle.ck_lookup.specs.Making.{made_text}
 
 abbrev Ups : Type 0
@@ -137,10 +137,6 @@ module _ (seed count : ℕ) where
             omega (arith, a, b, d, few)
         go (file ∷ other ∷ files) e = absurd (cc)
 
-    -- none of them is a `hold`
-    pub no_hold : holds 0 (said_of ups) ≡ []
-    no_hold = ap (λ u. holds 0 (said_of u)) ups_are ∙ (ap (holds 0) (said_numbered 1 (lines_of_updates seed count)) ∙ holds_called 0 us)
-
     -- none is beyond what there is
     pub in_range : range_fault ups (map (λ file. file.items) asks) ≡ None
     in_range =
@@ -175,7 +171,7 @@ module _ (seed count : ℕ) where
           let by_replies : List Reply → List ℕ = λ rs. summary_lines (summary_of rs found.items x.pairs.items) in
           let by_found : List (Option ℕ) → List ℕ = λ found_at. summary_lines (summary_of (replies nat_cmp capacity us) found_at x.pairs.items) in
           let by_pairs : List (ℕ × ℕ) → List ℕ = λ ps. summary_lines (summary_of (replies nat_cmp capacity us) (map (answer_after nat_cmp capacity us (length us)) ks) ps) in
-          ap by_replies plainly.replied ∙ (ap by_found first ∙ ap by_pairs plainly.paired)
+          ap by_replies plainly.replied ∙ (ap by_found first ∙ ap by_pairs plainly.final)
         where
           at_first : (lists : List (Vec (Option ℕ) Global)) → map (λ file. file.items) lists ≡ map (answer_after nat_cmp capacity us (length us)) ks ∷ [] → found ≡ slice_index_or lists 0 found → found.items ≡ map (answer_after nat_cmp capacity us (length us)) ks
           at_first [] e here = absurd (cc)

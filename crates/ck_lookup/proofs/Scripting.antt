@@ -1,21 +1,25 @@
 -- Script files that are read one after another.
-use Rattle.std.proofs.Common.{◌≡◌, ℕ, zero, suc, ◌+◌, ◌-◌, ◌<◌, List, [], ◌∷◌, ◌++◌, length, map, take, drop, get_or, Some, refl, ap, subst, sym, ◌∙◌, arith, inl, decimal, add-one, Bool, ◌||◌}
+use Rattle.std.proofs.Common.{◌≡◌, ℕ, zero, suc, ◌+◌, ◌-◌, ◌<◌, List, [], ◌∷◌, ◌++◌, length, map, take, drop, get_or, Option, Some, None, refl, ap, subst, sym, ◌∙◌, arith, inl, inr, decimal, add-one, Bool, ◌||◌}
 use Rattle.std.specs.Prelude.{slice_get}
 use Rattle.std.specs.List.{list_any}
 use Rattle.std.proofs.lemmas.List.{take_all}
 use Rattle.std.proofs.lemmas.List.Folds.{list_any-append}
-use Rattle.ck_history.specs.Key.{IsKey}
-use Rattle.ck_history.specs.declared.update.Update.{Update}
+use Rattle.std.specs.Option.{option_map, option_or}
+use Rattle.ck_script.specs.declared.fault.Why.{Why}
+use Rattle.ck_script.specs.declared.fault.Why.TheVariants.{Beyond, Many, Circle}
+use Rattle.ck_script.specs.declared.check.RangeFault.{RangeFault}
+use Rattle.ck_script.specs.Checks.{range_fault, circle_fault}
 use Rattle.ck_script.specs.declared.line.Numbered.{Numbered}
 use Rattle.ck_script.specs.declared.line.UpLine.{UpLine}
 use Rattle.ck_script.specs.declared.line.AskLine.{AskLine}
-use Rattle.ck_script.specs.Grammar.{FileSays, IsUpdateLine, update_words, IsQueryLine, query_words}
+use Rattle.ck_script.specs.Grammar.{FileSays}
 use Rattle.ck_script.specs.Fronts.{is_wait, any_wait}
-use Rattle.ck_script.specs.Script.{QueriesSay}
+use Rattle.ck_lookup.specs.Kinds.{Kind}
+use Rattle.ck_script.specs.Script.{AsksSay}
 use Rattle.ck_script.proofs.Circles.{or_false}
 use Rattle.ck_lookup.specs.declared.outcome.Outcome.{Outcome}
 use Rattle.ck_lookup.specs.declared.outcome.Outcome.TheVariants.{Done, Usage, ReadFault, BadScript, TooLarge, WriteFault, BadReport, Illegal, NoMemory}
-use Rattle.ck_lookup.specs.Causes.{IsLawful}
+use Rattle.ck_lookup.specs.Causes.{IsLawful, refused_as, checks_refusal}
 use Rattle.ck_lookup.specs.Running.{IsRefusedUpdates, IsRefusedQueries, IsRefusedQueryFile, IsRefusedScript}
 
 -- lists under a map, one more element at a time
@@ -53,77 +57,92 @@ next_of xs i lt = rw add-one (go xs i lt)
     go (x ∷ xs) zero lt = (x, refl, refl)
     go (x ∷ xs) (suc i) lt = let next = go xs i (omega arith) in (next.0, next.1, ap (λ ys. x ∷ ys) next.2)
 
--- one more query file says its lines
-pub queries_push : (files : List (List ℕ)) (bytes : List ℕ) (asks : List (List (Numbered (AskLine ℕ)))) (said : List (Numbered (AskLine ℕ))) → QueriesSay IsKey decimal files asks → FileSays (IsQueryLine IsKey) (query_words decimal) bytes said → QueriesSay IsKey decimal (files ++ bytes ∷ []) (asks ++ said ∷ [])
-queries_push [] bytes [] said all here = (here, tt)
-queries_push [] bytes (a ∷ asks) said all here = absurd all
-queries_push (f ∷ files) bytes [] said all here = absurd all
-queries_push (f ∷ files) bytes (a ∷ asks) said all here = (all.0, queries_push files bytes asks said all.1 here)
+module _ {C Q : Type 0} (kind : Kind C Q) where
+  -- one more query file says its lines
+  pub queries_push : (files : List (List ℕ)) (bytes : List ℕ) (asks : List (List (Numbered (AskLine Q)))) (said : List (Numbered (AskLine Q))) → AsksSay kind.queries.is_line kind.queries.words files asks → FileSays kind.queries.is_line kind.queries.words bytes said → AsksSay kind.queries.is_line kind.queries.words (files ++ bytes ∷ []) (asks ++ said ∷ [])
+  queries_push [] bytes [] said all here = (here, tt)
+  queries_push [] bytes (a ∷ asks) said all here = absurd all
+  queries_push (f ∷ files) bytes [] said all here = absurd all
+  queries_push (f ∷ files) bytes (a ∷ asks) said all here = (all.0, queries_push files bytes asks said all.1 here)
 
--- each of the files is in the grammar
-lawful_at : (files : List (List ℕ)) (asks : List (List (Numbered (AskLine ℕ)))) (n i : ℕ) (bytes : List ℕ) → QueriesSay IsKey decimal (take n files) asks → i < n → slice_get files i ≡ Some bytes → IsLawful 1 bytes
-lawful_at [] asks n i bytes all lt named = absurd (cc)
-lawful_at (f ∷ files) asks zero i bytes all lt named = absurd (omega arith)
-lawful_at (f ∷ files) [] (suc n) i bytes all lt named = absurd all
-lawful_at (f ∷ files) (a ∷ asks) (suc n) zero bytes all lt named = let same : f ≡ bytes = cc in (a, subst (λ b. FileSays (IsQueryLine IsKey) (query_words decimal) b a) same all.0)
-lawful_at (f ∷ files) (a ∷ asks) (suc n) (suc i) bytes all lt named = lawful_at files asks n i bytes all.1 (omega arith) named
+  -- each of the files is in the grammar
+  lawful_at : (files : List (List ℕ)) (asks : List (List (Numbered (AskLine Q)))) (n i : ℕ) (bytes : List ℕ) → AsksSay kind.queries.is_line kind.queries.words (take n files) asks → i < n → slice_get files i ≡ Some bytes → IsLawful kind 1 bytes
+  lawful_at [] asks n i bytes all lt named = absurd (cc)
+  lawful_at (f ∷ files) asks zero i bytes all lt named = absurd (omega arith)
+  lawful_at (f ∷ files) [] (suc n) i bytes all lt named = absurd all
+  lawful_at (f ∷ files) (a ∷ asks) (suc n) zero bytes all lt named = let same : f ≡ bytes = cc in (a, subst (λ b. FileSays kind.queries.is_line kind.queries.words b a) same all.0)
+  lawful_at (f ∷ files) (a ∷ asks) (suc n) (suc i) bytes all lt named = lawful_at files asks n i bytes all.1 (omega arith) named
 
--- the next query file was refused
-pub refused_queries : (files : List (List ℕ)) (asks : List (List (Numbered (AskLine ℕ)))) (i number : ℕ) (bytes : List ℕ) (o : Outcome) → number ≡ i + 1 → slice_get files i ≡ Some bytes → QueriesSay IsKey decimal (take i files) asks → IsRefusedQueryFile number bytes o → IsRefusedQueries files o
-refused_queries files asks i number bytes (BadScript file line why) count here all refused = record {
-  place = i;
-  number = omega (arith, refused.0);
-  bytes = bytes;
-  here = here;
-  first = refused.1;
-  earlier = λ j before lt named. lawful_at files asks i j before all lt named;
-}
-refused_queries files asks i number bytes NoMemory count here all refused = tt
-refused_queries files asks i number bytes Done count here all refused = absurd refused
-refused_queries files asks i number bytes Usage count here all refused = absurd refused
-refused_queries files asks i number bytes (ReadFault file) count here all refused = absurd refused
-refused_queries files asks i number bytes (TooLarge file) count here all refused = absurd refused
-refused_queries files asks i number bytes WriteFault count here all refused = absurd refused
-refused_queries files asks i number bytes (BadReport line) count here all refused = absurd refused
-refused_queries files asks i number bytes Illegal count here all refused = absurd refused
+  -- the next query file was refused
+  pub refused_queries : (files : List (List ℕ)) (asks : List (List (Numbered (AskLine Q)))) (i number : ℕ) (bytes : List ℕ) (o : Outcome) → number ≡ i + 1 → slice_get files i ≡ Some bytes → AsksSay kind.queries.is_line kind.queries.words (take i files) asks → IsRefusedQueryFile kind number bytes o → IsRefusedQueries kind files o
+  refused_queries files asks i number bytes (BadScript file line why) count here all refused = record {
+    place = i;
+    number = omega (arith, refused.0);
+    bytes = bytes;
+    here = here;
+    first = refused.1;
+    earlier = λ j before lt named. lawful_at files asks i j before all lt named;
+  }
+  refused_queries files asks i number bytes NoMemory count here all refused = tt
+  refused_queries files asks i number bytes Done count here all refused = absurd refused
+  refused_queries files asks i number bytes Usage count here all refused = absurd refused
+  refused_queries files asks i number bytes (ReadFault file) count here all refused = absurd refused
+  refused_queries files asks i number bytes (TooLarge file) count here all refused = absurd refused
+  refused_queries files asks i number bytes WriteFault count here all refused = absurd refused
+  refused_queries files asks i number bytes (BadReport line) count here all refused = absurd refused
+  refused_queries files asks i number bytes Illegal count here all refused = absurd refused
 
--- the update file was refused
-pub script_without_updates : (u : List ℕ) (qs : List (List ℕ)) (o : Outcome) → IsRefusedUpdates u o → IsRefusedScript u qs o
-script_without_updates u qs (BadScript file line why) refused = inl (record {
-  bytes = u;
-  here = rw refused.0 refl;
-  first = rw refused.0 refused.1;
-  earlier = λ i before lt named. absurd (omega (arith, refused.0));
-})
-script_without_updates u qs NoMemory refused = tt
-script_without_updates u qs Done refused = refused
-script_without_updates u qs Usage refused = refused
-script_without_updates u qs (ReadFault file) refused = refused
-script_without_updates u qs (TooLarge file) refused = refused
-script_without_updates u qs WriteFault refused = refused
-script_without_updates u qs (BadReport line) refused = refused
-script_without_updates u qs Illegal refused = refused
+  -- the update file was refused
+  pub script_without_updates : (u : List ℕ) (qs : List (List ℕ)) (o : Outcome) → IsRefusedUpdates kind u o → IsRefusedScript kind u qs o
+  script_without_updates u qs (BadScript file line why) refused = inl (record {
+    bytes = u;
+    here = rw refused.0 refl;
+    first = rw refused.0 refused.1;
+    earlier = λ i before lt named. absurd (omega (arith, refused.0));
+  })
+  script_without_updates u qs NoMemory refused = tt
+  script_without_updates u qs Done refused = refused
+  script_without_updates u qs Usage refused = refused
+  script_without_updates u qs (ReadFault file) refused = refused
+  script_without_updates u qs (TooLarge file) refused = refused
+  script_without_updates u qs WriteFault refused = refused
+  script_without_updates u qs (BadReport line) refused = refused
+  script_without_updates u qs Illegal refused = refused
 
--- a query file was refused, after the update file had been read
-pub script_without_queries : (u : List ℕ) (qs : List (List ℕ)) (ups : List (Numbered (UpLine (Update ℕ)))) (o : Outcome) → FileSays (IsUpdateLine IsKey) (update_words decimal) u ups → IsRefusedQueries qs o → IsRefusedScript u qs o
-script_without_queries u qs ups (BadScript file line why) says refused = inl (record {
-  bytes = refused.bytes;
-  here = rw refused.number refused.here;
-  first = rw refused.number refused.first;
-  earlier = λ i before lt named. lawful_before i before (omega (arith, refused.number)) named;
-})
-  where
-    lawful_before : (i : ℕ) (before : List ℕ) → i < suc refused.place → slice_get (u ∷ qs) i ≡ Some before → IsLawful i before
-    lawful_before zero before lt named = let same : u ≡ before = cc in (ups, subst (λ b. FileSays (IsUpdateLine IsKey) (update_words decimal) b ups) same says)
-    lawful_before (suc i) before lt named = refused.earlier i before (omega arith) named
-script_without_queries u qs ups NoMemory says refused = tt
-script_without_queries u qs ups Done says refused = refused
-script_without_queries u qs ups Usage says refused = refused
-script_without_queries u qs ups (ReadFault file) says refused = refused
-script_without_queries u qs ups (TooLarge file) says refused = refused
-script_without_queries u qs ups WriteFault says refused = refused
-script_without_queries u qs ups (BadReport line) says refused = refused
-script_without_queries u qs ups Illegal says refused = refused
+  -- a query file was refused, after the update file had been read
+  pub script_without_queries : (u : List ℕ) (qs : List (List ℕ)) (ups : List (Numbered (UpLine C))) (o : Outcome) → FileSays kind.updates.is_line kind.updates.words u ups → IsRefusedQueries kind qs o → IsRefusedScript kind u qs o
+  script_without_queries u qs ups (BadScript file line why) says refused = inl (record {
+    bytes = refused.bytes;
+    here = rw refused.number refused.here;
+    first = rw refused.number refused.first;
+    earlier = λ i before lt named. lawful_before i before (omega (arith, refused.number)) named;
+  })
+    where
+      lawful_before : (i : ℕ) (before : List ℕ) → i < suc refused.place → slice_get (u ∷ qs) i ≡ Some before → IsLawful kind i before
+      lawful_before zero before lt named = let same : u ≡ before = cc in (ups, subst (λ b. FileSays kind.updates.is_line kind.updates.words b ups) same says)
+      lawful_before (suc i) before lt named = refused.earlier i before (omega arith) named
+  script_without_queries u qs ups NoMemory says refused = tt
+  script_without_queries u qs ups Done says refused = refused
+  script_without_queries u qs ups Usage says refused = refused
+  script_without_queries u qs ups (ReadFault file) says refused = refused
+  script_without_queries u qs ups (TooLarge file) says refused = refused
+  script_without_queries u qs ups WriteFault says refused = refused
+  script_without_queries u qs ups (BadReport line) says refused = refused
+  script_without_queries u qs ups Illegal says refused = refused
+
+-- what the checks refuse is a line
+refused_line : (a b d : Option RangeFault) (o : Outcome) → option_or (option_map (refused_as Beyond) a) (option_or (option_map (refused_as Many) b) (option_map (refused_as Circle) d)) ≡ Some o
+    → (file line : ℕ) × (why : Why) × (o ≡ BadScript file line why)
+refused_line (Some f) b d o e = (f.file, f.line, Beyond, cc)
+refused_line None (Some f) d o e = (f.file, f.line, Many, cc)
+refused_line None None (Some f) o e = (f.file, f.line, Circle, cc)
+refused_line None None None o e = absurd (cc)
+
+-- the checks refused a line of files that had been read
+pub script_refused : {C Q : Type 0} (kind : Kind C Q) (u : List ℕ) (qs : List (List ℕ)) (ups : List (Numbered (UpLine C))) (asks : List (List (Numbered (AskLine Q)))) (o : Outcome) → FileSays kind.updates.is_line kind.updates.words u ups → AsksSay kind.queries.is_line kind.queries.words qs asks → checks_refusal kind ups asks ≡ Some o → IsRefusedScript kind u qs o
+script_refused kind u qs ups asks o says also first =
+    let line = refused_line (range_fault ups asks) (kind.surplus asks) (circle_fault ups asks) o first in
+    subst (IsRefusedScript kind u qs) (sym line.3) (inr (record { ups = ups; asks = asks; updates_said = says; queries_said = also; first = first ∙ ap (λ r. Some r) line.3 }))
 
 -- a `wait` in one more file
 pub any_wait_push : {A : Type 0} (files : List (List (Numbered (AskLine A)))) (said : List (Numbered (AskLine A))) (a b : Bool) → a ≡ any_wait files → b ≡ list_any (λ l. is_wait l.what) said → (a || b) ≡ any_wait (files ++ said ∷ [])

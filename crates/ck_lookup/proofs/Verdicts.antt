@@ -16,13 +16,13 @@ use Rattle.ck_judge.specs.declared.verdict.Verdict.{Verdict}
 use Rattle.ck_command.specs.Words.{JudgeCommand, Command, Judge, judged_names}
 use Rattle.ck_lookup.specs.declared.outcome.Outcome.{Outcome}
 use Rattle.ck_lookup.specs.declared.outcome.Outcome.TheVariants.{Done, Usage, ReadFault, BadScript, TooLarge, WriteFault, BadReport, Illegal, NoMemory}
-use Rattle.ck_lookup.specs.Headline.{capacity}
+use Rattle.ck_lookup.specs.Tables.{capacity, table_kind}
 use Rattle.ck_lookup.specs.Limits.{AreWithin, most_bytes}
 use Rattle.ck_lookup.specs.Causes.{Tells, AreSaid, AreRead, Outside, FetchedAll, PutNothing, IsDoneOrNoMemory}
 use Rattle.ck_lookup.specs.Judging.{judged_files, IsJudged, IsLegalOf, HasFiles, HasVerdict, EndsJudged, IsClearJudged, IsIllegalOrNoMemory}
 use Rattle.ck_lookup.specs.Running.{IsRefusedFetch, IsRefusedScript, IsNoReport, IsNotJudged, HasNoVerdict, PutsVerdict}
 use Rattle.ck_lookup.proofs.Told.{read_told}
-use Rattle.ck_lookup.proofs.Ending.{one_script, no_bad_script, none_too_large}
+use Rattle.ck_lookup.proofs.Ending.{one_table, one_script, no_bad_script, none_too_large}
 
 -- a list that isn't empty has a last element, and those before it
 split_end : {X : Type 0} (x : X) (xs : List X) → (front : List X) × (last : X) × (x ∷ xs ≡ front ++ last ∷ [])
@@ -67,7 +67,7 @@ module _ {X Y : Type 0} (f : X → Y) where
       sym_at k = let e : k + 1 ≡ suc k = omega arith in rw e refl
 
 -- a script that wasn't read
-pub script_not_judged : (u : List ℕ) (qs : List (List ℕ)) (r : List ℕ) (o : Outcome) → IsRefusedScript u qs o → IsNotJudged u qs r o
+pub script_not_judged : (u : List ℕ) (qs : List (List ℕ)) (r : List ℕ) (o : Outcome) → IsRefusedScript table_kind u qs o → IsNotJudged u qs r o
 script_not_judged u qs r (BadScript file line why) refused = refused
 script_not_judged u qs r NoMemory refused = tt
 script_not_judged u qs r Done refused = absurd refused
@@ -79,7 +79,7 @@ script_not_judged u qs r (BadReport line) refused = absurd refused
 script_not_judged u qs r Illegal refused = absurd refused
 
 -- a report that wasn't read, beside scripts that were
-pub report_not_judged : (u : List ℕ) (qs : List (List ℕ)) (r : List ℕ) (ups : List (Numbered (UpLine (Update ℕ)))) (asks : List (List (Numbered (AskLine ℕ)))) (o : Outcome) → AreSaid u qs ups asks → IsNoReport r o → IsNotJudged u qs r o
+pub report_not_judged : (u : List ℕ) (qs : List (List ℕ)) (r : List ℕ) (ups : List (Numbered (UpLine (Update ℕ)))) (asks : List (List (Numbered (AskLine ℕ)))) (o : Outcome) → AreSaid table_kind u qs ups asks → IsNoReport r o → IsNotJudged u qs r o
 report_not_judged u qs r ups asks (BadReport line) said refused = record { ups = ups; asks = asks; said = said; first = refused.0; no_report = refused.1 }
 report_not_judged u qs r ups asks NoMemory said refused = tt
 report_not_judged u qs r ups asks Done said refused = absurd refused
@@ -203,7 +203,7 @@ module _ (o : Outside) (ns : List (List ℕ)) (u : List ℕ) (qs : List (List �
     told_legal verdict j could =
         let meant = could.meant in
         let short = all_last (λ bytes. length bytes ≤ most_bytes) qs r clear.within.short.1 in
-        let same = one_script u qs meant.ups j.ups meant.asks j.asks meant.updates_said j.said.updates_said meant.queries_said j.said.queries_said in
+        let same = one_script table_kind one_table u qs meant.ups j.ups meant.asks j.asks meant.updates_said j.said.updates_said meant.queries_said j.said.queries_said in
         let script : could.script ≡ script_of (said_of j.ups) (map said_of j.asks) =
         meant.asked ∙ (ap (λ ups. script_of (said_of ups) (map said_of meant.asks)) same.0 ∙ ap (λ asks. script_of (said_of j.ups) (map said_of asks)) same.1) in
         let report = one_reading IsKey decimal nat_cmp one_table_key table_key_one_word r could.report j.report (omega (arith, short)) could.reads j.reads in
@@ -223,7 +223,7 @@ module _ (o : Outside) (ns : List (List ℕ)) (u : List ℕ) (qs : List (List �
     complete_judged WriteFault ends = absurd (clear.written ends.1)
     complete_judged (ReadFault file) ends = absurd (clear.read ends.0.name ends.0.rose)
     complete_judged (TooLarge file) ends = absurd (none_too_large o.held ns (u ∷ (qs ++ r ∷ [])) file clear.told clear.within ends.1)
-    complete_judged (BadScript file line why) ends = absurd (no_bad_script u qs clear.ups clear.asks file (record { line = line; why = why }) clear.said (here _ ends.1))
+    complete_judged (BadScript file line why) ends = absurd (no_bad_script table_kind one_table u qs clear.ups clear.asks file (record { line = line; why = why }) clear.said (here _ ends.1))
     complete_judged (BadReport line) ends = let bad = here _ ends.1 in absurd (bad.no_report clear.report)
 
 -- of a command that the words give

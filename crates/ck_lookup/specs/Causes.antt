@@ -1,67 +1,79 @@
 -- Why a run ends as it does.
 use Rattle.std.specs.Prelude.{◌≡◌, ℕ, zero, suc, ◌+◌, ◌<◌, ◌⊎◌, List, [], ◌∷◌, ◌++◌, length, map, take, Option, Some, None, IfSome, slice_get, decimal}
+use Rattle.std.specs.Option.{option_map, option_or}
 use Rattle.ck_io.specs.Faults.{Rose}
 use Rattle.ck_io.specs.Sink.{appended, AppendsPrefix}
-use Rattle.ck_history.specs.Key.{IsKey}
-use Rattle.ck_history.specs.declared.update.Update.{Update}
 use Rattle.ck_script.specs.declared.fault.ScriptFault.{ScriptFault}
-use Rattle.ck_script.specs.declared.fault.Why.TheVariants.{Beyond}
+use Rattle.ck_script.specs.declared.fault.Why.{Why}
+use Rattle.ck_script.specs.declared.fault.Why.TheVariants.{Beyond, Many, Circle}
+use Rattle.ck_script.specs.declared.check.RangeFault.{RangeFault}
 use Rattle.ck_script.specs.declared.line.Numbered.{Numbered}
 use Rattle.ck_script.specs.declared.line.UpLine.{UpLine}
 use Rattle.ck_script.specs.declared.line.AskLine.{AskLine}
-use Rattle.ck_script.specs.Checks.{range_fault}
-use Rattle.ck_script.specs.Script.{QueriesSay}
-use Rattle.ck_script.specs.Grammar.{FileSays, IsFirstFault, HasFault, IsUpdateLine, update_words, update_verbs, IsQueryLine, query_words, query_verbs}
-use Rattle.ck_script.specs.Keys.{IsTableKeyFault}
+use Rattle.ck_script.specs.Checks.{range_fault, circle_fault}
+use Rattle.ck_script.specs.Grammar.{FileSays, IsFirstFault}
 use Rattle.ck_lookup.specs.declared.outcome.Outcome.{Outcome}
 use Rattle.ck_lookup.specs.declared.outcome.Outcome.TheVariants.{Done, Usage, ReadFault, BadScript, TooLarge, WriteFault, BadReport, Illegal, NoMemory}
 use Rattle.ck_lookup.specs.Limits.{AreWithin}
+use Rattle.ck_script.specs.Script.{AsksSay}
+use Rattle.ck_lookup.specs.Kinds.{Kind}
 use Rattle.ck_lookup.specs.Headline.{IsReportOf}
 
--- the file with this number is in the grammar: file 0 is the update file, the others are query files
-abbrev pub IsLawful : ℕ → List ℕ → Type 0
-IsLawful zero bytes = (said : _) × FileSays (IsUpdateLine IsKey) (update_words decimal) bytes said
-IsLawful (suc f) bytes = (said : _) × FileSays (IsQueryLine IsKey) (query_words decimal) bytes said
+-- the refusal of a line that a check names
+abbrev pub refused_as : Why → RangeFault → Outcome
+refused_as why fault = BadScript fault.file fault.line why
 
--- the first fault of the file with this number
-abbrev pub IsFaultOf : ℕ → List ℕ → ScriptFault → Type 0
-IsFaultOf zero = IsFirstFault (IsUpdateLine IsKey) (update_words decimal) (HasFault IsKey decimal IsTableKeyFault update_verbs)
-IsFaultOf (suc f) = IsFirstFault (IsQueryLine IsKey) (query_words decimal) (HasFault IsKey decimal IsTableKeyFault query_verbs)
+module _ {C Q : Type 0} (kind : Kind C Q) where
+  -- the file with this number is in the grammar: file 0 is the update file, the others are query files
+  abbrev pub IsLawful : ℕ → List ℕ → Type 0
+  IsLawful zero bytes = (said : _) × FileSays kind.updates.is_line kind.updates.words bytes said
+  IsLawful (suc f) bytes = (said : _) × FileSays kind.queries.is_line kind.queries.words bytes said
 
--- this one of the files has the fault, and the files before it are in the grammar
-pub record IsBadLine (files : List (List ℕ)) (file : ℕ) (fault : ScriptFault) : Type 0 where
-  pub bytes : List ℕ
-  pub here : slice_get files file ≡ Some bytes
-  pub first : IsFaultOf file bytes fault
-  pub earlier : (i : ℕ) (before : List ℕ) → i < file → slice_get files i ≡ Some before → IsLawful i before
+  -- the first fault of the file with this number
+  abbrev pub IsFaultOf : ℕ → List ℕ → ScriptFault → Type 0
+  IsFaultOf zero = IsFirstFault kind.updates.is_line kind.updates.words kind.updates.is_fault
+  IsFaultOf (suc f) = IsFirstFault kind.queries.is_line kind.queries.words kind.queries.is_fault
 
--- the update file says the lines `ups`, the query files say `asks`, and none of these lines is beyond what there is
-pub record AreSaid (update_file : List ℕ) (query_files : List (List ℕ)) (ups : List (Numbered (UpLine (Update ℕ)))) (asks : List (List (Numbered (AskLine ℕ)))) : Type 0 where
-  pub updates_said : FileSays (IsUpdateLine IsKey) (update_words decimal) update_file ups
-  pub queries_said : QueriesSay IsKey decimal query_files asks
-  pub in_range : range_fault ups asks ≡ None
+  -- this one of the files has the fault, and the files before it are in the grammar
+  pub record IsBadLine (files : List (List ℕ)) (file : ℕ) (fault : ScriptFault) : Type 0 where
+    pub bytes : List ℕ
+    pub here : slice_get files file ≡ Some bytes
+    pub first : IsFaultOf file bytes fault
+    pub earlier : (i : ℕ) (before : List ℕ) → i < file → slice_get files i ≡ Some before → IsLawful i before
 
--- nothing stands against a report of these files: they are within the limits, all of them are in the grammar, and no line
--- is beyond what there is
-pub record AreAccepted (update_file : List ℕ) (query_files : List (List ℕ)) : Type 0 where
-  pub within : AreWithin (update_file ∷ query_files)
-  pub ups : List (Numbered (UpLine (Update ℕ)))
-  pub asks : List (List (Numbered (AskLine ℕ)))
-  pub said : AreSaid update_file query_files ups asks
+  -- The refusal of lines that are all in the grammar, in the order of the checks: the first line that is beyond what there is; where there is
+  -- none, the first query that there are too many of; where there is none either, the first `hold` line that would wait for ever
+  abbrev pub checks_refusal : List (Numbered (UpLine C)) → List (List (Numbered (AskLine Q))) → Option Outcome
+  checks_refusal ups asks =
+      option_or (option_map (refused_as Beyond) (range_fault ups asks)) (
+      option_or (option_map (refused_as Many) (kind.surplus asks)) (option_map (refused_as Circle) (circle_fault ups asks)))
 
--- all files are in the grammar, and this line of what they say is the first that is beyond what there is
-pub record IsBeyondLine (update_file : List ℕ) (query_files : List (List ℕ)) (file : ℕ) (fault : ScriptFault) : Type 0 where
-  pub ups : List (Numbered (UpLine (Update ℕ)))
-  pub asks : List (List (Numbered (AskLine ℕ)))
-  pub updates_said : FileSays (IsUpdateLine IsKey) (update_words decimal) update_file ups
-  pub queries_said : QueriesSay IsKey decimal query_files asks
-  pub why : fault.why ≡ Beyond
-  pub first : range_fault ups asks ≡ Some (record { file = file; line = fault.line })
+  -- the update file says the lines `ups`, the query files say `asks`, and no check refuses these lines
+  pub record AreSaid (update_file : List ℕ) (query_files : List (List ℕ)) (ups : List (Numbered (UpLine C))) (asks : List (List (Numbered (AskLine Q)))) : Type 0 where
+    pub updates_said : FileSays kind.updates.is_line kind.updates.words update_file ups
+    pub queries_said : AsksSay kind.queries.is_line kind.queries.words query_files asks
+    pub checked : checks_refusal ups asks ≡ None
 
--- the first fault of a run's files
-abbrev pub IsBadScript : List ℕ → List (List ℕ) → ℕ → ScriptFault → Type 0
-IsBadScript update_file query_files file fault =
-    IsBadLine (update_file ∷ query_files) file fault ⊎ IsBeyondLine update_file query_files file fault
+  -- Nothing stands against a report of these files: they are within the limits, all of them are in the grammar, no line is beyond what there
+  -- is, there are no queries too many, and no `hold` line would wait for ever
+  pub record AreAccepted (update_file : List ℕ) (query_files : List (List ℕ)) : Type 0 where
+    pub within : AreWithin (update_file ∷ query_files)
+    pub ups : List (Numbered (UpLine C))
+    pub asks : List (List (Numbered (AskLine Q)))
+    pub said : AreSaid update_file query_files ups asks
+
+  -- all files are in the grammar, and this line of what they say is the first that the checks refuse
+  pub record IsRefusedLine (update_file : List ℕ) (query_files : List (List ℕ)) (file : ℕ) (fault : ScriptFault) : Type 0 where
+    pub ups : List (Numbered (UpLine C))
+    pub asks : List (List (Numbered (AskLine Q)))
+    pub updates_said : FileSays kind.updates.is_line kind.updates.words update_file ups
+    pub queries_said : AsksSay kind.queries.is_line kind.queries.words query_files asks
+    pub first : checks_refusal ups asks ≡ Some (BadScript file fault.line fault.why)
+
+  -- the first fault of a run's files
+  abbrev pub IsBadScript : List ℕ → List (List ℕ) → ℕ → ScriptFault → Type 0
+  IsBadScript update_file query_files file fault =
+      IsBadLine (update_file ∷ query_files) file fault ⊎ IsRefusedLine update_file query_files file fault
 
 -- the files under some names have these bytes: of each what is told under its name, where that is told
 abbrev pub AreRead : {N : Type 0} → (N → Option (List ℕ)) → List N → List (List ℕ) → Type 0
@@ -97,21 +109,23 @@ module _ (held : List ℕ → Option (List ℕ)) (names : List (List ℕ)) where
     pub rose : Rose (before name) (after name)
     pub earlier : AreFirstWithin file
 
+-- the same for a kind of run
+module _ {C Q : Type 0} (kind : Kind C Q) (held : List ℕ → Option (List ℕ)) (names : List (List ℕ)) where
   -- there are bytes of all files: they are within the limits, and this is their first fault
   pub record HasBadScript (file : ℕ) (fault : ScriptFault) : Type 0 where
     pub update_file : List ℕ
     pub query_files : List (List ℕ)
     pub read : AreRead held names (update_file ∷ query_files)
     pub within : AreWithin (update_file ∷ query_files)
-    pub first : IsBadScript update_file query_files file fault
+    pub first : IsBadScript kind update_file query_files file fault
 
   -- there are bytes of all files: nothing stands against a report of them, and the text is one
   pub record HasReport (text : List ℕ) : Type 0 where
     pub update_file : List ℕ
     pub query_files : List (List ℕ)
     pub read : AreRead held names (update_file ∷ query_files)
-    pub accepted : AreAccepted update_file query_files
-    pub report : IsReportOf update_file query_files text
+    pub accepted : AreAccepted kind update_file query_files
+    pub report : IsReportOf kind update_file query_files text
 
 -- the outside of a run: what the shelf holds, the counts of faults, and what the sink took, before and after the run
 pub record Outside : Type 0 where
@@ -144,30 +158,31 @@ module _ (o : Outside) (names : List (List ℕ)) where
   abbrev pub PutNothing : Type 0
   PutNothing = o.taken_after ≡ o.taken_before
 
+module _ {C Q : Type 0} (kind : Kind C Q) (o : Outside) (names : List (List ℕ)) where
   -- what the sink took is a whole report
   abbrev pub PutReport : Type 0
-  PutReport = (text : List ℕ) × HasReport o.held names text × (o.taken_after ≡ appended o.taken_before text)
+  PutReport = (text : List ℕ) × HasReport kind o.held names text × (o.taken_after ≡ appended o.taken_before text)
 
   -- what the sink took is the front of a report, maybe none or all of it
   abbrev pub PutFront : Type 0
-  PutFront = (text : List ℕ) × HasReport o.held names text × AppendsPrefix o.taken_before o.taken_after text
+  PutFront = (text : List ℕ) × HasReport kind o.held names text × AppendsPrefix o.taken_before o.taken_after text
 
   -- a run of these files may end with the outcome: that has its cause, and none of the refusals that come before it
   abbrev pub MayEndWith : Outcome → Type 0
-  MayEndWith Done = FetchedAll × PutReport
+  MayEndWith Done = FetchedAll o names × PutReport
   MayEndWith Usage = ⊥
-  MayEndWith (ReadFault file) = IsReadFault o.held names o.shelf_before o.shelf_after file × PutNothing
-  MayEndWith (TooLarge file) = FetchedAll × IsTooLarge o.held names file × PutNothing
-  MayEndWith (BadScript file line why) = FetchedAll × HasBadScript o.held names file (record { line = line; why = why }) × PutNothing
-  MayEndWith WriteFault = FetchedAll × Rose o.sink_before o.sink_after × PutFront
+  MayEndWith (ReadFault file) = IsReadFault o.held names o.shelf_before o.shelf_after file × PutNothing o names
+  MayEndWith (TooLarge file) = FetchedAll o names × IsTooLarge o.held names file × PutNothing o names
+  MayEndWith (BadScript file line why) = FetchedAll o names × HasBadScript kind o.held names file (record { line = line; why = why }) × PutNothing o names
+  MayEndWith WriteFault = FetchedAll o names × Rose o.sink_before o.sink_after × PutFront
   MayEndWith (BadReport line) = ⊥
   MayEndWith Illegal = ⊥
-  MayEndWith NoMemory = PutNothing ⊎ (FetchedAll × PutFront)
+  MayEndWith NoMemory = PutNothing o names ⊎ (FetchedAll o names × PutFront)
 
   -- nothing stands against a whole report: the shelf tells files of which nothing is refused, and no count of faults rose
   pub record IsClear (update_file : List ℕ) (query_files : List (List ℕ)) : Type 0 where
     pub told : Tells o.held names update_file query_files
-    pub accepted : AreAccepted update_file query_files
+    pub accepted : AreAccepted kind update_file query_files
     pub read : (name : List ℕ) → Rose (o.shelf_before name) (o.shelf_after name) → ⊥
     pub written : Rose o.sink_before o.sink_after → ⊥
 

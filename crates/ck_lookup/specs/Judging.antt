@@ -16,7 +16,7 @@ use Rattle.ck_judge.specs.declared.verdict.Verdict.{Verdict}
 use Rattle.ck_judge.specs.declared.verdict.Verdict.TheVariants as verdict
 use Rattle.ck_lookup.specs.declared.outcome.Outcome.{Outcome}
 use Rattle.ck_lookup.specs.declared.outcome.Outcome.TheVariants.{Done, Usage, ReadFault, BadScript, TooLarge, WriteFault, BadReport, Illegal, NoMemory}
-use Rattle.ck_lookup.specs.Headline.{capacity}
+use Rattle.ck_lookup.specs.Tables.{capacity, table_kind}
 use Rattle.ck_lookup.specs.Limits.{AreWithin}
 use Rattle.ck_lookup.specs.Causes.{AreSaid, AreRead, IsBadScript, IsReadFault, IsTooLarge, Outside, FetchedAll, PutNothing, Tells}
 
@@ -40,7 +40,7 @@ module _ (update_file : List ℕ) (query_files : List (List ℕ)) (report_file :
   pub record IsJudged (verdict : Verdict) : Type 0 where
     pub ups : List (Numbered (UpLine (Update ℕ)))
     pub asks : List (List (Numbered (AskLine ℕ)))
-    pub said : AreSaid update_file query_files ups asks
+    pub said : AreSaid table_kind update_file query_files ups asks
     pub report : Parts ℕ
     pub reads : ReadsAs report_file report
     pub judged : IsVerdict nat_cmp capacity (script_of (said_of ups) (map said_of asks)) report verdict
@@ -50,7 +50,7 @@ module _ (update_file : List ℕ) (query_files : List (List ℕ)) (report_file :
   pub record IsBadReport (line : ℕ) : Type 0 where
     pub ups : List (Numbered (UpLine (Update ℕ)))
     pub asks : List (List (Numbered (AskLine ℕ)))
-    pub said : AreSaid update_file query_files ups asks
+    pub said : AreSaid table_kind update_file query_files ups asks
     pub first : BreaksAt IsKey decimal nat_cmp report_file line
     pub no_report : IsReport IsKey decimal nat_cmp report_file → ⊥
 
@@ -80,7 +80,7 @@ module _ (held : List ℕ → Option (List ℕ)) (names : List (List ℕ)) where
   HasBadReport line = HasFiles (λ update_file query_files report_file. IsBadReport update_file query_files report_file line)
 
   abbrev pub HasBadScriptBeside : ℕ → ScriptFault → Type 0
-  HasBadScriptBeside file fault = HasFiles (λ update_file query_files report_file. IsBadScript update_file query_files file fault)
+  HasBadScriptBeside file fault = HasFiles (λ update_file query_files report_file. IsBadScript table_kind update_file query_files file fault)
 
 module _ (o : Outside) (names : List (List ℕ)) where
   -- how a run of these files may end, with the cause of each outcome, and with none of the refusals that come before it
@@ -102,7 +102,7 @@ module _ (o : Outside) (names : List (List ℕ)) where
     pub within : AreWithin (judged_files update_file query_files report_file)
     pub ups : List (Numbered (UpLine (Update ℕ)))
     pub asks : List (List (Numbered (AskLine ℕ)))
-    pub said : AreSaid update_file query_files ups asks
+    pub said : AreSaid table_kind update_file query_files ups asks
     pub report : IsReport IsKey decimal nat_cmp report_file
     pub read : (name : List ℕ) → Rose (o.shelf_before name) (o.shelf_after name) → ⊥
     pub written : Rose o.sink_before o.sink_after → ⊥

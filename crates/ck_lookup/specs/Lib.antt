@@ -1,4 +1,8 @@
 pub mod Limits
+pub mod Kinds
+pub mod Tables
+pub mod Lists
+pub mod RunKinds
 pub mod Headline
 pub mod Causes
 pub mod Making

@@ -5,7 +5,7 @@ use Rattle.ck_io.specs.Sink.{appended, AppendsPrefix}
 use Rattle.ck_gen.specs.Summaries.{generated_summary}
 use Rattle.ck_lookup.specs.declared.outcome.Outcome.{Outcome}
 use Rattle.ck_lookup.specs.declared.outcome.Outcome.TheVariants.{Done, WriteFault, NoMemory}
-use Rattle.ck_lookup.specs.Headline.{capacity}
+use Rattle.ck_lookup.specs.Tables.{capacity}
 
 -- the summary of a seed and of so many lines
 abbrev pub made_text : ℕ → ℕ → List ℕ

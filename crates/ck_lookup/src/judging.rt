@@ -9,6 +9,7 @@ ghost use Rattle.ck_lookup.specs.Running.{IsNotJudged, IsNoReport, HasNoVerdict,
 use crate::fetch::fetch_all;
 use crate::outcome::Outcome;
 use crate::scripts::read_scripts;
+use crate::table::OverTable;
 use ck_history::Key;
 use ck_io::{Shelf, Sink, put_all};
 use ck_judge::{Verdict, judge};
@@ -16,7 +17,7 @@ use ck_report::{MapReport, ReportError, read_map_report};
 use std::alloc::{AllocError, Global};
 
 /// How many pairs a table may have.
-const CAPACITY: u64 = 65_536;
+const CAPACITY: u64 = 262_144;
 
 /// Judges the last of the files under these names, a report, beside the scripts before it, and puts the line that tells the
 /// verdict.
@@ -67,7 +68,7 @@ fn judge_files(alloc: Global, files: &[Vec<u8>]) -> Result<Verdict, Outcome>
 {
     match files {
         [update_file, query_files @ .., report_file] => {
-            let scripts = read_scripts(alloc, update_file, query_files)?;
+            let scripts = read_scripts::<OverTable>(alloc, update_file, query_files)?;
             let report = read_report(alloc, report_file)?;
             match judge(alloc, &scripts.ups, &scripts.asks, &report, CAPACITY) {
                 Ok(verdict) => Ok(verdict),

@@ -3,12 +3,14 @@
 
 mod fetch;
 mod files;
+mod job;
 mod judging;
+mod kinds;
+mod list;
 mod lookup;
 mod making;
 mod outcome;
 mod program;
-mod report;
 mod scripts;
 mod table;
 #[cfg(test)]

@@ -1,18 +1,21 @@
-ghost use Rattle.std.specs.Prelude.{◌≡◌, ◌≤◌, ◌⊎◌, ◌++◌, ◌∷◌, [], ℕ, List, map, Some, None, string_bytes};
+ghost use Rattle.std.specs.Prelude.{◌≡◌, ◌≤◌, ◌⊎◌, ◌++◌, ◌∷◌, [], ℕ, List, length, map, Some, None, string_bytes};
 ghost use Rattle.ck_io.specs.Faults.{NeverFall, Rose};
 ghost use Rattle.ck_io.specs.Sink.{appended};
 ghost use Rattle.ck_lookup.specs.declared.outcome.Outcome.TheVariants.{Done, Usage, NoMemory};
-ghost use Rattle.ck_command.specs.Words.{TableCommand, JudgeCommand, Table, Make, Judge, names, judged_names, command_of};
+ghost use Rattle.ck_command.specs.Words.{RunCommand, JudgeCommand, Run, Make, Judge, names, judged_names, command_of};
+ghost use Rattle.ck_command.specs.Asked.{kind_value, run_value};
+ghost use Rattle.ck_lookup.specs.RunKinds.{kind_of};
 ghost use Rattle.ck_lookup.specs.Headline.{IsReportOf};
 ghost use Rattle.ck_lookup.specs.Causes.{Tells, AreAccepted, outside, MayEndWith, IsClear, IsDoneOrNoMemory};
 ghost use Rattle.ck_lookup.specs.Making.{made_text, PutsText};
 ghost use Rattle.ck_lookup.specs.Judging.{IsLegalOf, EndsJudged, IsClearJudged, IsIllegalOrNoMemory};
 
 use crate::judging::run_judge;
+use crate::list::run_list;
 use crate::making::run_make;
 use crate::outcome::Outcome;
 use crate::table::run_table;
-use ck_command::{Command, read_words};
+use ck_command::{Command, Kind, read_words};
 use ck_io::{Gate, Shelf, Sink};
 use std::alloc::Global;
 use std::sync::Wait;
@@ -20,8 +23,8 @@ use std::thread::Threads;
 
 /// Does all that `lookup` does. The words are those after the program's name.
 ///
-/// - `table` ..: fetches the files that the words name, checks them, makes the updates in one task and answers the queries
-///   in others, side by side, and then puts the report to the sink.
+/// - `table` .., `list` ..: fetches the files that the words name, checks them, makes the updates in one task and answers the
+///   queries in others, side by side, and then puts the report to the sink.
 /// - `make SEED LINES`: generates files, runs them in the same way, and puts the summary of that run.
 /// - `judge table` ..: fetches scripts and a report, and puts the line that tells whether the report could have come from
 ///   them, and where it differs first if not.
@@ -40,22 +43,22 @@ pub fn run<R: Threads + Wait + Sync, S: Shelf, K: Sink, G: Gate + Sync>(
 
     // The headline. Where the run is done, and the shelf tells the bytes of the files, nothing of these bytes is refused,
     // and what the sink took in this run is a report of them.
-    ensures report { (c : TableCommand) (update_file : List ℕ) (query_files : List (List ℕ))
-        → command_of (map string_bytes words.now) ≡ Some (Table c)
+    ensures report { (c : RunCommand) (update_file : List ℕ) (query_files : List (List ℕ))
+        → command_of (map string_bytes words.now) ≡ Some (Run c)
         → Tells (S.held shelf.old) (names c) update_file query_files
         → result ≡ Done
-        → AreAccepted update_file query_files
-        × ((text : List ℕ) × IsReportOf update_file query_files text × (K.taken sink.new ≡ appended (K.taken sink.old) text)) }
+        → AreAccepted (kind_of c.kind).kind update_file query_files
+        × ((text : List ℕ) × IsReportOf (kind_of c.kind).kind update_file query_files text × (K.taken sink.new ≡ appended (K.taken sink.old) text)) }
 
     // Every outcome has its cause, and none of the refusals that come before it. Where the shelf tells no bytes, there are
     // bytes for each file of which all this holds.
-    ensures ends { (c : TableCommand) → command_of (map string_bytes words.now) ≡ Some (Table c)
-        → MayEndWith (outside (S.held shelf.old) (S.faults shelf.old) (S.faults shelf.new) (K.taken sink.old) (K.taken sink.new) (K.faults sink.old) (K.faults sink.new)) (names c) result }
+    ensures ends { (c : RunCommand) → command_of (map string_bytes words.now) ≡ Some (Run c)
+        → MayEndWith (kind_of c.kind).kind (outside (S.held shelf.old) (S.faults shelf.old) (S.faults shelf.new) (K.taken sink.old) (K.taken sink.new) (K.faults sink.old) (K.faults sink.new)) (names c) result }
 
     // Lawful files, and no fault of shelf or sink, give the whole report, unless memory is wanting.
-    ensures complete { (c : TableCommand) (update_file : List ℕ) (query_files : List (List ℕ))
-        → command_of (map string_bytes words.now) ≡ Some (Table c)
-        → IsClear (outside (S.held shelf.old) (S.faults shelf.old) (S.faults shelf.new) (K.taken sink.old) (K.taken sink.new) (K.faults sink.old) (K.faults sink.new)) (names c) update_file query_files
+    ensures complete { (c : RunCommand) (update_file : List ℕ) (query_files : List (List ℕ))
+        → command_of (map string_bytes words.now) ≡ Some (Run c)
+        → IsClear (kind_of c.kind).kind (outside (S.held shelf.old) (S.faults shelf.old) (S.faults shelf.new) (K.taken sink.old) (K.taken sink.new) (K.faults sink.old) (K.faults sink.new)) (names c) update_file query_files
         → IsDoneOrNoMemory result }
 
     // The summary of a seed: the sink took all of its text, or a front of it where it failed, or nothing where memory was
@@ -92,24 +95,40 @@ pub fn run<R: Threads + Wait + Sync, S: Shelf, K: Sink, G: Gate + Sync>(
     ensures sink_lasting { K.faults sink.old ≤ K.faults sink.new }
 {
     match read_words(alloc, words) {
-        Ok(Some(Command::Table(command))) => {
-            let workers = command.workers;
-            run_table(
-                rt,
-                alloc,
-                command.updates,
-                &command.queries,
-                workers,
-                shelf,
-                sink,
-                gate,
-            )
-        }
+        Ok(Some(Command::Run(command))) => run_command(rt, alloc, &command, shelf, sink, gate),
         Ok(Some(Command::Make { seed, lines })) => run_make(rt, alloc, seed, lines, sink),
         Ok(Some(Command::Judge(command))) => {
             run_judge(alloc, command.updates, &command.others, shelf, sink)
         }
         Ok(None) => Outcome::Usage,
         Err(_) => Outcome::NoMemory,
+    }
+}
+
+// Runs the files of the command, over what its kind says.
+fn run_command<R: Threads + Wait + Sync, S: Shelf, K: Sink, G: Gate + Sync>(
+    rt: &R,
+    alloc: Global,
+    command: &ck_command::RunCommand,
+    shelf: &mut S,
+    sink: &mut K,
+    gate: &G,
+) -> Outcome
+    requires queries { (1 ≤ length command.now.queries.items) × (length command.now.queries.items ≤ 64) }
+    requires workers { (1 ≤ command.now.workers) × (command.now.workers ≤ 16) }
+    ensures ends { MayEndWith (kind_of (kind_value command.now.kind)).kind (outside (S.held shelf.old) (S.faults shelf.old) (S.faults shelf.new) (K.taken sink.old) (K.taken sink.new) (K.faults sink.old) (K.faults sink.new)) (names (run_value command.now)) result }
+    ensures held { S.held shelf.new ≡ S.held shelf.old }
+    ensures shelf_lasting { NeverFall (S.faults shelf.old) (S.faults shelf.new) }
+    ensures sink_lasting { K.faults sink.old ≤ K.faults sink.new }
+{
+    let (updates, queries, workers) = (command.updates, &command.queries, command.workers);
+    match command.kind {
+        Kind::Table => {
+            let seed = command.seed;
+            run_table(
+                rt, alloc, updates, queries, seed, workers, shelf, sink, gate,
+            )
+        }
+        Kind::List => run_list(rt, alloc, updates, queries, workers, shelf, sink, gate),
     }
 }

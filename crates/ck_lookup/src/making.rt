@@ -7,7 +7,8 @@ use crate::outcome::Outcome;
 use ck_gen::{Summary, queries, summary_text, updates};
 use ck_history::{Key, Update};
 use ck_io::{OpenGate, Sink, put_all};
-use ck_pool::{Job, run_over_snap};
+use ck_jobs::run_over_table;
+use ck_pool::Job;
 use ck_script::{AskLine, Numbered, ScriptError, UpLine, read_queries, read_updates};
 use std::alloc::{AllocError, Global};
 use std::sync::Wait;
@@ -29,7 +30,7 @@ pub fn make<R: Threads + Wait + Sync>(
     ensures { IfOk result (λ text. text.items ≡ made_text seed lines) }
 {
     let job = generated_job(alloc, seed, lines)?;
-    let answered = run_over_snap(rt, alloc, &job, WORKERS, &OpenGate)?;
+    let answered = run_over_table(rt, alloc, seed, &job, WORKERS, &OpenGate)?;
     let answers = &answered.answers[0];
     summary_text(
         alloc,

@@ -1,17 +1,16 @@
-ghost use Rattle.std.specs.Prelude.{◌≡◌, ◌+◌, ◌<◌, nat_le, List, ℕ, Some, None, IfOk, IfErr, length, map, slice_get, decimal};
+ghost use Rattle.std.specs.Prelude.{◌≡◌, ◌+◌, ◌<◌, nat_le, List, ℕ, Some, None, IfOk, IfErr, MatchResult, length, map, slice_get};
 ghost use Rattle.std.specs.List.{list_any};
-ghost use Rattle.ck_history.specs.Key.{IsKey};
-ghost use Rattle.ck_script.specs.Grammar.{FileSays, IsUpdateLine, update_words};
-ghost use Rattle.ck_script.specs.Script.{QueriesSay};
-ghost use Rattle.ck_script.specs.Checks.{range_fault};
-ghost use Rattle.ck_lookup.specs.Causes.{IsFaultOf};
+ghost use Rattle.ck_script.specs.Checks.{range_fault, circle_fault};
+ghost use Rattle.ck_script.specs.Fronts.{any_hold, any_wait};
+ghost use Rattle.ck_lookup.specs.Causes.{AreSaid, checks_refusal, refused_as};
 ghost use Rattle.ck_lookup.specs.Running.{IsRefusedScript, refusal_of};
 ghost use Rattle.ck_lookup.specs.FilesRead.{IsUpdateFileRead, IsQueryFileRead, AreQueryFilesRead, AreReadEach};
 
+use crate::kinds::RunKind;
 use crate::outcome::Outcome;
-use ck_history::{Key, Update};
+use ck_pool::Job;
 use ck_script::{
-    AskLine, Numbered, ScriptError, UpLine, Why, check_ranges, scan_queries, scan_updates,
+    AskLine, Numbered, RangeFault, ScriptError, UpLine, Why, check_circles, check_ranges,
 };
 use std::alloc::Global;
 use std::thread;
@@ -20,55 +19,42 @@ use std::thread::Threads;
 /// From so many bytes on it is worth a thread to read a file beside the others.
 const LARGE: usize = 131_072;
 
-/// What the files of a run say.
-#[derive(Debug, Drop)]
-pub struct Scripts {
-    /// The lines of the update file.
-    pub ups: Vec<Numbered<UpLine<Update<Key>>>>,
-    /// The lines of each query file.
-    pub asks: Vec<Vec<Numbered<AskLine<Key>>>>,
-}
-
-/// What the files say, or the outcome of the first line that is outside the grammar or beyond what there is.
-pub fn read_scripts(
+/// What the files say, or the outcome of the first line that is outside the grammar or that the checks refuse.
+pub fn read_scripts<T: RunKind>(
     alloc: Global,
     update_file: &[u8],
     query_files: &[Vec<u8>],
-) -> Result<Scripts, Outcome>
-    ensures updates { IfOk result (λ scripts. FileSays (IsUpdateLine IsKey) (update_words decimal) update_file.now scripts.ups.items) }
-    ensures queries { IfOk result (λ scripts. QueriesSay IsKey decimal (map (λ file. file.items) query_files.now) (map (λ file. file.items) scripts.asks.items)) }
-    ensures in_range { IfOk result (λ scripts. range_fault scripts.ups.items (map (λ file. file.items) scripts.asks.items) ≡ None) }
-    ensures refused { IfErr result (IsRefusedScript update_file.now (map (λ file. file.items) query_files.now)) }
+) -> Result<Job<T::Call, T::Ask>, Outcome>
+    ensures said { IfOk result (λ job. AreSaid T.kind update_file.now (map (λ file. file.items) query_files.now) job.ups.items (map (λ file. file.items) job.asks.items)) }
+    ensures refused { IfErr result (IsRefusedScript T.kind update_file.now (map (λ file. file.items) query_files.now)) }
 {
-    let updates = updates_in(alloc, update_file);
-    let queries = queries_in(alloc, query_files);
-    put_together(update_file, query_files, updates, queries)
+    let updates = updates_in::<T>(alloc, update_file);
+    let queries = queries_in::<T>(alloc, query_files);
+    put_together::<T>(update_file, query_files, updates, queries)
 }
 
 /// What `read_scripts` tells. Where several tasks may read and some file is large, each file is read by a task of its own.
-pub fn read_scripts_by<R: Threads + Sync>(
+pub fn read_scripts_by<T: RunKind, R: Threads + Sync>(
     rt: &R,
     alloc: Global,
     tasks: u64,
     update_file: &[u8],
     query_files: &[Vec<u8>],
-) -> Result<Scripts, Outcome>
-    ensures updates { IfOk result (λ scripts. FileSays (IsUpdateLine IsKey) (update_words decimal) update_file.now scripts.ups.items) }
-    ensures queries { IfOk result (λ scripts. QueriesSay IsKey decimal (map (λ file. file.items) query_files.now) (map (λ file. file.items) scripts.asks.items)) }
-    ensures in_range { IfOk result (λ scripts. range_fault scripts.ups.items (map (λ file. file.items) scripts.asks.items) ≡ None) }
-    ensures refused { IfErr result (IsRefusedScript update_file.now (map (λ file. file.items) query_files.now)) }
+) -> Result<Job<T::Call, T::Ask>, Outcome>
+    ensures said { IfOk result (λ job. AreSaid T.kind update_file.now (map (λ file. file.items) query_files.now) job.ups.items (map (λ file. file.items) job.asks.items)) }
+    ensures refused { IfErr result (IsRefusedScript T.kind update_file.now (map (λ file. file.items) query_files.now)) }
 {
     if tasks <= 1 || !(update_file.len() >= LARGE || has_large(query_files)) {
-        return read_scripts(alloc, update_file, query_files);
+        return read_scripts::<T>(alloc, update_file, query_files);
     }
-    let read_updates = || -> Result<(Vec<Numbered<UpLine<Update<Key>>>>, bool), Outcome>
-        ensures { IsUpdateFileRead update_file.entry.now result }
-    { updates_in(alloc, update_file) };
-    let read_queries = || -> Result<(Vec<Vec<Numbered<AskLine<Key>>>>, bool), Outcome>
-        ensures { AreQueryFilesRead (map (λ file. file.items) query_files.entry.now) result }
-    { queries_side_by_side(rt, alloc, query_files) };
+    let read_updates = || -> Result<(Vec<Numbered<UpLine<T::Call>>>, bool), Outcome>
+        ensures { IsUpdateFileRead T.kind update_file.entry.now result }
+    { updates_in::<T>(alloc, update_file) };
+    let read_queries = || -> Result<(Vec<Vec<Numbered<AskLine<T::Ask>>>>, bool), Outcome>
+        ensures { AreQueryFilesRead T.kind (map (λ file. file.items) query_files.entry.now) result }
+    { queries_side_by_side::<T, R>(rt, alloc, query_files) };
     let (updates, queries) = thread::join(rt, read_updates, read_queries);
-    put_together(update_file, query_files, updates, queries)
+    put_together::<T>(update_file, query_files, updates, queries)
 }
 
 // Whether a file is large.
@@ -85,64 +71,119 @@ fn has_large(files: &[Vec<u8>]) -> bool
 
 // The scripts of files that were read, of which one may have been refused. The update file comes first, then the query
 // files in order.
-fn put_together(
+fn put_together<T: RunKind>(
     update_file: &[u8],
     query_files: &[Vec<u8>],
-    updates: Result<(Vec<Numbered<UpLine<Update<Key>>>>, bool), Outcome>,
-    queries: Result<(Vec<Vec<Numbered<AskLine<Key>>>>, bool), Outcome>,
-) -> Result<Scripts, Outcome>
-    requires updates { IsUpdateFileRead update_file.now updates }
-    requires queries { AreQueryFilesRead (map (λ file. file.items) query_files.now) queries }
-    ensures updates { IfOk result (λ scripts. FileSays (IsUpdateLine IsKey) (update_words decimal) update_file.now scripts.ups.items) }
-    ensures queries { IfOk result (λ scripts. QueriesSay IsKey decimal (map (λ file. file.items) query_files.now) (map (λ file. file.items) scripts.asks.items)) }
-    ensures in_range { IfOk result (λ scripts. range_fault scripts.ups.items (map (λ file. file.items) scripts.asks.items) ≡ None) }
-    ensures refused { IfErr result (IsRefusedScript update_file.now (map (λ file. file.items) query_files.now)) }
+    updates: Result<(Vec<Numbered<UpLine<T::Call>>>, bool), Outcome>,
+    queries: Result<(Vec<Vec<Numbered<AskLine<T::Ask>>>>, bool), Outcome>,
+) -> Result<Job<T::Call, T::Ask>, Outcome>
+    requires updates { IsUpdateFileRead T.kind update_file.now updates }
+    requires queries { AreQueryFilesRead T.kind (map (λ file. file.items) query_files.now) queries }
+    ensures said { IfOk result (λ job. AreSaid T.kind update_file.now (map (λ file. file.items) query_files.now) job.ups.items (map (λ file. file.items) job.asks.items)) }
+    ensures refused { IfErr result (IsRefusedScript T.kind update_file.now (map (λ file. file.items) query_files.now)) }
 {
     // Only the contract reads these: they say of which files the results are.
     let _update_file = update_file;
     let _query_files = query_files;
     let (ups, holds) = updates?;
     let (asks, waits) = queries?;
-    // Only lines at which a task waits can be beyond, so most scripts need no further pass.
-    if !holds && !waits {
-        return Ok(Scripts { ups, asks });
+    check::<T>(holds, waits, &ups, &asks)?;
+    Ok(Job { ups, asks })
+}
+
+// The refusal of the first line that is beyond what there is, or else of the first query that there are too many of, or else of the first
+// line that would wait for ever.
+fn check<T: RunKind>(
+    holds: bool,
+    waits: bool,
+    ups: &[Numbered<UpLine<T::Call>>],
+    asks: &[Vec<Numbered<AskLine<T::Ask>>>],
+) -> Result<(), Outcome>
+    requires holds { holds ≡ any_hold ups.now }
+    requires waits { waits ≡ any_wait (map (λ file. file.items) asks.now) }
+    ensures { MatchResult result (λ _. checks_refusal T.kind ups.now (map (λ file. file.items) asks.now) ≡ None) (λ refusal. checks_refusal T.kind ups.now (map (λ file. file.items) asks.now) ≡ Some refusal) }
+{
+    if let Some(fault) = find_beyond(holds, waits, ups, asks) {
+        return Err(refused(Why::Beyond, fault));
     }
-    match check_ranges(&ups, &asks) {
-        None => Ok(Scripts { ups, asks }),
-        Some(fault) => Err(Outcome::BadScript {
-            file: fault.file,
-            line: fault.line,
-            why: Why::Beyond,
-        }),
+    if let Some(fault) = T::surplus(asks) {
+        return Err(refused(Why::Many, fault));
+    }
+    match find_circle(holds, ups, asks) {
+        None => Ok(()),
+        Some(fault) => Err(refused(Why::Circle, fault)),
+    }
+}
+
+// The first line that is beyond. Only one at which a task waits can be, so most scripts need no pass.
+fn find_beyond<C, Q>(
+    holds: bool,
+    waits: bool,
+    ups: &[Numbered<UpLine<C>>],
+    asks: &[Vec<Numbered<AskLine<Q>>>],
+) -> Option<RangeFault>
+    requires holds { holds ≡ any_hold ups.now }
+    requires waits { waits ≡ any_wait (map (λ file. file.items) asks.now) }
+    ensures { result ≡ range_fault ups.now (map (λ file. file.items) asks.now) }
+{
+    if !holds && !waits {
+        return None;
+    }
+    check_ranges(ups, asks)
+}
+
+// The first line that would wait for ever, which is a `hold`.
+fn find_circle<C, Q>(
+    holds: bool,
+    ups: &[Numbered<UpLine<C>>],
+    asks: &[Vec<Numbered<AskLine<Q>>>],
+) -> Option<RangeFault>
+    requires { holds ≡ any_hold ups.now }
+    ensures { result ≡ circle_fault ups.now (map (λ file. file.items) asks.now) }
+{
+    if !holds {
+        return None;
+    }
+    check_circles(ups, asks)
+}
+
+// How a run ends of which a check names this line.
+fn refused(why: Why, fault: RangeFault) -> Outcome
+    ensures { result ≡ refused_as why fault }
+{
+    Outcome::BadScript {
+        file: fault.file,
+        line: fault.line,
+        why,
     }
 }
 
 // The lines of the update file, and whether one of them is a `hold`.
-fn updates_in(
+fn updates_in<T: RunKind>(
     alloc: Global,
     bytes: &[u8],
-) -> Result<(Vec<Numbered<UpLine<Update<Key>>>>, bool), Outcome>
-    ensures { IsUpdateFileRead bytes.now result }
+) -> Result<(Vec<Numbered<UpLine<T::Call>>>, bool), Outcome>
+    ensures { IsUpdateFileRead T.kind bytes.now result }
 {
-    match scan_updates(alloc, bytes) {
+    match T::scan_updates(alloc, bytes) {
         Ok(scanned) => Ok(scanned),
         Err(error) => Err(refusal(0, error)),
     }
 }
 
 // The lines of each query file, and whether one of them is a `wait`.
-fn queries_in(
+fn queries_in<T: RunKind>(
     alloc: Global,
     files: &[Vec<u8>],
-) -> Result<(Vec<Vec<Numbered<AskLine<Key>>>>, bool), Outcome>
-    ensures { AreQueryFilesRead (map (λ file. file.items) files.now) result }
+) -> Result<(Vec<Vec<Numbered<AskLine<T::Ask>>>>, bool), Outcome>
+    ensures { AreQueryFilesRead T.kind (map (λ file. file.items) files.now) result }
 {
     let mut asks = Vec::new(alloc);
     let mut waits = false;
     let mut number: u64 = 0;
     for file in files {
         number += 1;
-        let (said, has_wait) = queries_of(alloc, number, file)?;
+        let (said, has_wait) = queries_of::<T>(alloc, number, file)?;
         asks.push(said)?;
         waits |= has_wait;
     }
@@ -150,30 +191,30 @@ fn queries_in(
 }
 
 // The same, where each file is read by a task of its own.
-fn queries_side_by_side<R: Threads + Sync>(
+fn queries_side_by_side<T: RunKind, R: Threads + Sync>(
     rt: &R,
     alloc: Global,
     files: &[Vec<u8>],
-) -> Result<(Vec<Vec<Numbered<AskLine<Key>>>>, bool), Outcome>
-    ensures { AreQueryFilesRead (map (λ file. file.items) files.now) result }
+) -> Result<(Vec<Vec<Numbered<AskLine<T::Ask>>>>, bool), Outcome>
+    ensures { AreQueryFilesRead T.kind (map (λ file. file.items) files.now) result }
 {
-    let read = |i: usize| -> Result<(Vec<Numbered<AskLine<Key>>>, bool), Outcome>
+    let read = |i: usize| -> Result<(Vec<Numbered<AskLine<T::Ask>>>, bool), Outcome>
         requires { i < length files.now }
-        ensures { (bytes : List ℕ) → slice_get (map (λ file. file.items) files.entry.now) i ≡ Some bytes → IsQueryFileRead (i + 1) bytes result }
-    { queries_of(alloc, i as u64 + 1, &files[i]) };
+        ensures { (bytes : List ℕ) → slice_get (map (λ file. file.items) files.entry.now) i ≡ Some bytes → IsQueryFileRead T.kind (i + 1) bytes result }
+    { queries_of::<T>(alloc, i as u64 + 1, &files[i]) };
     let said = thread::map_indices(rt, alloc, files.len(), &read)?;
-    gather(alloc, files, said)
+    gather::<T>(alloc, files, said)
 }
 
 // The lines of all query files, where those of each were read, or the refusal of the first that is refused.
-fn gather(
+fn gather<T: RunKind>(
     alloc: Global,
     files: &[Vec<u8>],
-    said: Vec<Result<(Vec<Numbered<AskLine<Key>>>, bool), Outcome>>,
-) -> Result<(Vec<Vec<Numbered<AskLine<Key>>>>, bool), Outcome>
+    said: Vec<Result<(Vec<Numbered<AskLine<T::Ask>>>, bool), Outcome>>,
+) -> Result<(Vec<Vec<Numbered<AskLine<T::Ask>>>>, bool), Outcome>
     requires len { length said.items ≡ length files.now }
-    requires each { AreReadEach (map (λ file. file.items) files.now) said.items }
-    ensures { AreQueryFilesRead (map (λ file. file.items) files.now) result }
+    requires each { AreReadEach T.kind (map (λ file. file.items) files.now) said.items }
+    ensures { AreQueryFilesRead T.kind (map (λ file. file.items) files.now) result }
 {
     // Only the contract reads these.
     let _files = files;
@@ -188,14 +229,14 @@ fn gather(
 }
 
 // The lines of the query file with this number, and whether one of them is a `wait`.
-fn queries_of(
+fn queries_of<T: RunKind>(
     alloc: Global,
     number: u64,
     bytes: &[u8],
-) -> Result<(Vec<Numbered<AskLine<Key>>>, bool), Outcome>
-    ensures { IsQueryFileRead number bytes.now result }
+) -> Result<(Vec<Numbered<AskLine<T::Ask>>>, bool), Outcome>
+    ensures { IsQueryFileRead T.kind number bytes.now result }
 {
-    match scan_queries(alloc, bytes) {
+    match T::scan_queries(alloc, bytes) {
         Ok(scanned) => Ok(scanned),
         Err(error) => Err(refusal(number, error)),
     }

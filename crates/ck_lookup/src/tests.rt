@@ -13,7 +13,9 @@ use std::test::Fail;
 use std::thread::Threads;
 
 mod judge;
+mod lists;
 mod make;
+mod puts;
 mod threads;
 
 // Runs words over files into a sink.
@@ -57,10 +59,10 @@ fn ran<R: Threads + Wait + Sync>(
     Ok((outcome, taken))
 }
 
-// Files under one-letter names: u, q and r.
+// Files under one-letter names, from u on.
 fn shelved(alloc: Global, texts: &[&str]) -> Result<Vec<(String, Vec<u8>)>, AllocError> {
     let mut files = Vec::new(alloc);
-    for (name, text) in ["u", "q", "r"].iter().zip(texts.iter()) {
+    for (name, text) in ["u", "q", "r", "s", "t"].iter().zip(texts.iter()) {
         files.push((
             String::from_str(alloc, name)?,
             Vec::from_slice(alloc, text.as_bytes())?,
@@ -79,6 +81,28 @@ const REPORTS: &[(&[&str], &str)] = &[
     (
         &["put 1 5\nput 1 6\ntidy\n", ""],
         "u 1 fresh\nu 2 has 5\nu 3 tidied\nt 1 = 5\nend\n",
+    ),
+    (
+        &[
+            "set 1 10\nhold 1 1\nset 1 20\n",
+            "wait 1\nget 1\nwait 2\nget 1\n",
+        ],
+        "u 1 fresh\nu 2 was 10\nq 1 1 1 = 10\nq 1 2 1 = 20\nt 1 = 20\nend\n",
+    ),
+    (
+        &[
+            "set 1 5\nhold 1 1\ndel 1\n",
+            "wait 1\nget 1\nwait 2\nget 1\n",
+        ],
+        "u 1 fresh\nu 2 was 5\nq 1 1 1 = 5\nq 1 2 1 absent\nend\n",
+    ),
+    (&["set 1 5", ""], "u 1 fresh\nt 1 = 5\nend\n"),
+    (
+        &[
+            "set 340282366920938463463374607431768211454 3\nset 18446744073709551616 2\nset 18446744073709551615 1\n",
+            "",
+        ],
+        "u 1 fresh\nu 2 fresh\nu 3 fresh\nt 18446744073709551615 = 1\nt 18446744073709551616 = 2\nt 340282366920938463463374607431768211454 = 3\nend\n",
     ),
     (
         &["del 9\nset 9 1\nset 9 1", ""],
@@ -132,6 +156,38 @@ const REFUSED: &[(&[&str], Outcome)] = &[
         },
     ),
     (
+        &["set 340282366920938463463374607431768211455 1\n", ""],
+        Outcome::BadScript {
+            file: 0,
+            line: 1,
+            why: Why::Key,
+        },
+    ),
+    (
+        &["set 340282366920938463463374607431768211456 1\n", ""],
+        Outcome::BadScript {
+            file: 0,
+            line: 1,
+            why: Why::Number,
+        },
+    ),
+    (
+        &["set 1 1\n\r\n", ""],
+        Outcome::BadScript {
+            file: 0,
+            line: 2,
+            why: Why::Verb,
+        },
+    ),
+    (
+        &["set  1 5\n", ""],
+        Outcome::BadScript {
+            file: 0,
+            line: 1,
+            why: Why::Shape,
+        },
+    ),
+    (
         &["set 1 1\n", "get 1\nget\n"],
         Outcome::BadScript {
             file: 1,
@@ -148,11 +204,38 @@ const REFUSED: &[(&[&str], Outcome)] = &[
         },
     ),
     (
-        &["hold 1 1\n", "get 1\n"],
+        &["hold 2 1\n", "get 1\n"],
         Outcome::BadScript {
             file: 0,
             line: 1,
-            why: Why::Verb,
+            why: Why::Beyond,
+        },
+    ),
+    (
+        &["hold 1 1\nset 1 10\n", "wait 1\nget 1\n"],
+        Outcome::BadScript {
+            file: 0,
+            line: 1,
+            why: Why::Circle,
+        },
+    ),
+    (
+        &[
+            "set 1 10\nhold 1 2\nset 1 20\n",
+            "wait 1\nget 1\nwait 2\nget 1\n",
+        ],
+        Outcome::BadScript {
+            file: 0,
+            line: 2,
+            why: Why::Circle,
+        },
+    ),
+    (
+        &["hold 1 1\nset 1 10\n", "wait 1\nget 1\nwait 2\n"],
+        Outcome::BadScript {
+            file: 1,
+            line: 3,
+            why: Why::Beyond,
         },
     ),
     (&["set 1 1\n"], Outcome::ReadFault { file: 1 }),
@@ -180,10 +263,10 @@ fn refuses_with_the_cause(rt: HostRuntime) -> Result<(), Fail> {
         &Outcome::BadScript {
             file: 0,
             line: 1,
-            why: Why::Key,
+            why: Why::Circle,
         },
     )?;
-    assert_eq!(rt; line.as_str(), "lookup: file 0 line 1: key");
+    assert_eq!(rt; line.as_str(), "lookup: file 0 line 1: circle");
     Ok(())
 }
 
@@ -376,33 +459,27 @@ fn refuses_files_past_a_limit(rt: HostRuntime) -> Result<(), Fail> {
     Ok(())
 }
 
-// 65,536 keys fill the table.
+// 262,144 keys fill the table.
 #[test]
 fn fills_the_table(rt: HostRuntime) -> Result<(), Fail> {
     let alloc = rt.alloc();
     let mut text = String::new(alloc);
-    for k in 1..65537u32 {
+    for k in 1..262145u32 {
         text.push_str(format!(in alloc; "set {k} {k}\n")?.as_str())?;
     }
-    text.push_str("set 70000 1\nset 1 9\n")?;
+    text.push_str("set 700000 1\nset 1 9\n")?;
     let files = shelved(alloc, &[text.as_str(), ""])?;
-    let (outcome, taken) = ran(
-        &rt,
-        alloc,
-        &["table", "u", "q"],
-        files,
-        Vec::new(alloc),
-        65536,
-        Vec::new(alloc),
-    )?;
+    let mut sink = MemSink::new(alloc, 16000000, 65536, Vec::new(alloc))?;
+    let words = ["table", "u", "q"];
+    let outcome = ran_into(&rt, alloc, &words, files, Vec::new(alloc), &mut sink)?;
     assert_eq!(rt; outcome, Outcome::Done);
-    let report = String::from_utf8(taken)?;
+    let report = String::from_utf8(Vec::from_slice(alloc, sink.bytes())?)?;
     assert!(rt;
         report
             .as_str()
-            .contains("\nu 65537 full\nu 65538 was 1\nt 1 = 9\nt 2 = 2\n")
+            .contains("\nu 262145 full\nu 262146 was 1\nt 1 = 9\nt 2 = 2\n")
     );
-    assert!(rt; report.as_str().ends_with("\nt 65536 = 65536\nend\n"));
+    assert!(rt; report.as_str().ends_with("\nt 262144 = 262144\nend\n"));
     Ok(())
 }
 

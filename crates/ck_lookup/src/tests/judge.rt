@@ -10,6 +10,8 @@ const TWICE: (&str, &str) = ("set 1 10\nset 1 20\n", "wait 1\nget 1\nwait 2\nget
 
 const ONCE: (&str, &str) = ("set 7 10\n", "wait 1\nget 7\n");
 
+const HELD: (&str, &str) = ("set 1 10\nhold 1 1\nset 1 20\n", "get 1\n");
+
 const ANY: (&str, &str) = ("set 7 10\n", "get 7\n");
 
 // Scripts and a report, and the line and the outcome of the judgment on it.
@@ -63,14 +65,26 @@ const JUDGED: &[((&str, &str), &str, &str, Outcome)] = &[
         Outcome::BadReport { line: 4 },
     ),
     (
-        ("hold 1 1\n", "get 1\n"),
+        ("hold 1 1\nset 1 10\n", "wait 1\nget 1\n"),
         "end\n",
         "",
         Outcome::BadScript {
             file: 0,
             line: 1,
-            why: Why::Verb,
+            why: Why::Circle,
         },
+    ),
+    (
+        HELD,
+        "u 1 fresh\nu 2 was 10\nq 1 1 1 = 10\nt 1 = 20\nend\n",
+        "legal\n",
+        Outcome::Done,
+    ),
+    (
+        HELD,
+        "u 1 fresh\nu 2 was 10\nq 1 1 1 = 20\nt 1 = 20\nend\n",
+        "place 1 1\n",
+        Outcome::Illegal,
     ),
     (
         ("", "wait 1\n"),

@@ -4,8 +4,8 @@ use crate::{Outcome, run};
 use ck_io::{Gate, MemShelf, MemSink};
 use std::alloc::{AllocError, Global};
 use std::sync::Wait;
-use std::sync::atomic::AtomicBool;
 use std::sync::atomic::Ordering::SeqCst;
+use std::sync::atomic::{AtomicBool, AtomicU64};
 use std::test::Fail;
 use std::thread::Threads;
 
@@ -85,6 +85,71 @@ fn updates_run_beside_queries(rt: HostRuntime) -> Result<(), Fail> {
     let words = ["table", "--workers", "1", "u", "q"];
     let texts = ["set 1 5\nset 1 6\n", "get 1\n"];
     assert_eq!(rt; meets(&rt, rt.alloc(), &words, &texts, &gate)?, true);
+    Ok(())
+}
+
+// A gate that holds the lines of query files until so many were reached, or for so many turns, and counts those that saw it.
+#[derive(Drop)]
+struct GatheringGate {
+    wanted: u64,
+    turns: u64,
+    reached: AtomicU64,
+    met: AtomicU64,
+}
+
+impl Gate for GatheringGate {
+    fn before(&self, who: u64, _line: u64) {
+        if who == 0 {
+            return;
+        }
+        self.reached.fetch_add(1, SeqCst);
+        for _turn in 0..self.turns {
+            if self.reached.load(SeqCst) >= self.wanted {
+                self.met.fetch_add(1, SeqCst);
+                return;
+            }
+        }
+    }
+}
+
+// How many of the lines of query files, one in each, see that all of them were reached.
+fn gathered<R: Threads + Wait + Sync>(
+    rt: &R,
+    alloc: Global,
+    words: &[&str],
+    texts: &[&str],
+    turns: u64,
+) -> Result<u64, AllocError> {
+    let gate = GatheringGate {
+        wanted: texts.len().saturating_sub(1) as u64,
+        turns,
+        reached: AtomicU64::new(0),
+        met: AtomicU64::new(0),
+    };
+    let words = owned(alloc, words)?;
+    let mut shelf = MemShelf::new(shelved(alloc, texts)?, Vec::new(alloc));
+    let mut sink = MemSink::new(alloc, 1000, 1000, Vec::new(alloc))?;
+    let _ = run(rt, alloc, &words, &mut shelf, &mut sink, &gate);
+    Ok(gate.met.load(SeqCst))
+}
+
+// With one task the first line goes on alone, and only the second finds both reached.
+#[test]
+fn one_worker_answers_one_file_at_a_time(rt: HostRuntime) -> Result<(), Fail> {
+    let words = ["table", "--workers", "1", "u", "q", "r"];
+    let texts = ["", "get 1\n", "get 1\n"];
+    assert_eq!(rt; gathered(&rt, rt.alloc(), &words, &texts, 10_000_000)?, 1);
+    Ok(())
+}
+
+#[test]
+fn four_workers_answer_four_files_at_once(rt: HostRuntime) -> Result<(), Fail> {
+    let words = ["table", "--workers", "4", "u", "q", "r", "s", "t"];
+    let texts = ["", "get 1\n", "get 1\n", "get 1\n", "get 1\n"];
+    assert_eq!(rt;
+        gathered(&rt, rt.alloc(), &words, &texts, 1_000_000_000)?,
+        4
+    );
     Ok(())
 }
 

@@ -1,6 +1,7 @@
 use Rattle.std.proofs.Common.{map}
 use Rattle.std.proofs.lemmas.Result.{err_from_is_err_and}
 use Rattle.ck_report.specs.Reports.{parts_of}
+use Rattle.ck_lookup.specs.Tables.{table_kind}
 use Rattle.ck_lookup.specs.Causes.{AreSaid}
 use Rattle.ck_lookup.proofs.Verdicts.{judged_mapped, report_not_judged}
 use Rattle.ck_lookup.proofs.judging.judge_files.Goals as goal
@@ -10,11 +11,7 @@ returns-in_err-report-in-len2-up-clause-refused c u qs r is =
     let scripts = c.in_ok-scripts-in-len2-up in
     let p = err_from_is_err_and c.from_residual-in_err-report-in-len2-up.result c.from_residual-in_err-report-in-len2-up.ensures.1 in
     let same = judged_mapped c.args.files.now c.update_file-item.result c.report_file-item.result u qs r c.requires is c.update_file-item.is c.report_file-item.is in
-    let said : AreSaid u qs scripts.scripts.ups.items (map (λ file. file.items) scripts.scripts.asks.items) = record {
-      updates_said = rw (c.deref.ensures.value, same.0) at scripts.ensures.updates;
-      queries_said = rw same.1 at scripts.ensures.queries;
-      in_range = scripts.ensures.in_range;
-    } in
+    let said : AreSaid table_kind u qs scripts.scripts.ups.items (map (λ file. file.items) scripts.scripts.asks.items) = rw (c.deref.ensures.value, same.0, same.1) at scripts.ensures.said in
     rw (p.1, p.2) (report_not_judged u qs r _ _ _ said (rw (c.deref-in-len2-up.ensures.value, same.2) at c.in_err-report-in-len2-up.ensures.refused))
 
 pub returns-in-Ok-clause-judged : goal.returns-in-Ok-clause-judged
@@ -24,11 +21,7 @@ returns-in-Ok-clause-judged c u qs r is =
     record {
       ups = scripts.scripts.ups.items;
       asks = map (λ file. file.items) scripts.scripts.asks.items;
-      said = record {
-        updates_said = rw (c.deref.ensures.value, same.0) at scripts.ensures.updates;
-        queries_said = rw same.1 at scripts.ensures.queries;
-        in_range = scripts.ensures.in_range;
-      };
+      said = rw (c.deref.ensures.value, same.0, same.1) at scripts.ensures.said;
       report = parts_of c.in_ok-report-in-len2-up.report;
       reads = rw (c.deref-in-len2-up.ensures.value, same.2) at c.in_ok-report-in-len2-up.ensures.reads;
       judged = rw (c.deref-in-len2-up-2.ensures.value, c.deref-in-len2-up-3.ensures.value) at c.in-Ok.ensures.verdict;

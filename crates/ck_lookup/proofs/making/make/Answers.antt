@@ -1,16 +1,13 @@
 use Rattle.std.proofs.Common.{◌≡◌, ◌∙◌, ap, subst, IfOk}
 use Rattle.ck_gen.specs.Summaries.{summary_of, summary_lines}
-use Rattle.ck_lookup.proofs.Generating.{few_lines, no_hold, in_range, summary_is}
+use Rattle.ck_lookup.proofs.Generating.{few_lines, in_range, summary_is}
 use Rattle.ck_lookup.proofs.making.make.Goals as goal
 
-pub run_over_snap-requires-clause-lines : goal.run_over_snap-requires-clause-lines
-run_over_snap-requires-clause-lines g c κs within = few_lines c.args.seed c.args.lines _ _ c.in_ok-job.ensures.updates c.in_ok-job.ensures.queries c.requires
+pub run_over_table-requires-clause-lines : goal.run_over_table-requires-clause-lines
+run_over_table-requires-clause-lines g c κs within = few_lines c.args.seed c.args.lines _ _ c.in_ok-job.ensures.updates c.in_ok-job.ensures.queries c.requires
 
-pub run_over_snap-requires-clause-ranges : goal.run_over_snap-requires-clause-ranges
-run_over_snap-requires-clause-ranges g c κs within = in_range c.args.seed c.args.lines _ _ c.in_ok-job.ensures.updates c.in_ok-job.ensures.queries
-
-pub run_over_snap-requires-clause-no_hold : goal.run_over_snap-requires-clause-no_hold
-run_over_snap-requires-clause-no_hold g c κs within = no_hold c.args.seed c.args.lines _ _ c.in_ok-job.ensures.updates c.in_ok-job.ensures.queries
+pub run_over_table-requires-clause-ranges : goal.run_over_table-requires-clause-ranges
+run_over_table-requires-clause-ranges g c κs within = in_range c.args.seed c.args.lines _ _ c.in_ok-job.ensures.updates c.in_ok-job.ensures.queries
 
 pub returns : goal.returns
 returns g c =
