@@ -2,6 +2,7 @@
 # Runs the proved program with the words that it is given, and proves and builds it first where that is needed:
 #
 #   ./lookup.sh table UPDATES QUERY..
+#   ./lookup.sh list UPDATES QUERY..
 #   ./lookup.sh make SEED LINES
 #   ./lookup.sh judge table UPDATES QUERY.. REPORT
 #
@@ -40,7 +41,7 @@ usage() {
 # Ends with the usage line for words that surely aren't of the form. On all others the program decides.
 look_at_words() {
     case ${1-} in
-    table)
+    table | list)
         shift
         look_at_files 2 65 "$@"
         ;;
