@@ -17,7 +17,7 @@ use Rattle.ck_epoch.proofs.Looks.{scan_more, call_more, found_inactive, found_cu
 use Rattle.ck_registry.specs.declared.answers.Finding.TheVariants.{AllInactive, AllCurrent, OneBehind}
 use Rattle.ck_registry.specs.State.{Origin, Token, TokenState, Activity, resting, passing, checking, after_scan, scan, records_of, registry, state}
 use Rattle.ck_registry.specs.Ends.{IsHolder}
-use Rattle.ck_registry.specs.Scan.{begun, scanned, IsScanning, HasScanned}
+use Rattle.ck_registry.specs.Scan.{begun, scanned, HasLookedAt, HasScanned}
 use Rattle.ck_registry.proofs.Stepping.{Steps, Went, stays, opened, may_go, goes, went_as, passing_late, may_load, after_idle_load}
 
 -- a number of a token's is that of the one that it began as
@@ -53,7 +53,7 @@ module _ (t : Token) (rec d : ℕ) (h : IsHolder t rec d) (few : (state t).calls
     not_done : (0 == R) ≡ false
     not_done = ne_eqb 0 R (λ z. let b = (opened t h.part).some_records in omega arith)
 
-    pub start : IsScanning t u n 0 None
+    pub start : HasLookedAt t u n 0 None
     start = record {
       low = low_after t u s1 at_first h.low;
       made = (state t).steps + 1;
@@ -74,7 +74,7 @@ scanned_as b a k k' e rec (Some r) true = refl
 scanned_as b a k k' e rec busy false = refl
 
 -- one record
-module _ (t u : Token) (e rec : ℕ) (busy : Option ℕ) (at : IsScanning t u e rec busy) (low : rec < records_of (origin t)) where
+module _ (t u : Token) (e rec : ℕ) (busy : Option ℕ) (at : HasLookedAt t u e rec busy) (low : rec < records_of (origin t)) where
   abbrev S : ℕ
   S = records_of (origin t)
 
@@ -116,7 +116,7 @@ module _ (t u : Token) (e rec : ℕ) (busy : Option ℕ) (at : IsScanning t u e 
     seen = adds_one (follows_of registry) t u v (call scan [] (Load 0 e ∷ scan_steps 0 at.looked)) (further (Load w n)) at.steps made
         ∙ ap (λ (k : ℕ). adding t (call scan [] (Load 0 e ∷ scan_steps 0 at.looked) ++ further (Load k n) ∷ [])) w_is
 
-    pub inactive : n ≡ 0 → IsScanning t v e (rec + 1) busy
+    pub inactive : n ≡ 0 → HasLookedAt t v e (rec + 1) busy
     inactive none =
         let l : RecordLook = record { active = n; epoch = 0 } in
         let s = seen_state true (eq-eqb n 0 none) in
@@ -161,7 +161,7 @@ module _ (t u : Token) (e rec : ℕ) (busy : Option ℕ) (at : IsScanning t u e 
             ∙ ap (λ (k : ℕ). call scan [] (Load 0 e ∷ scan_steps 0 at.looked) ++ further (Load (active_word rec) n) ∷ further (Load k m) ∷ []) x_is))
             (sym (ap (λ (c : Bool). Load (active_word rec) n ∷ cond c [] (Load (epoch_word rec) m ∷ [])) (ne_eqb n 0 active)))
 
-        pub current : m ≡ e → IsScanning t z e (rec + 1) busier
+        pub current : m ≡ e → HasLookedAt t z e (rec + 1) busier
         current is = let s = compared_state true (eq-eqb m e is) in record {
           low = low_after t z _ s number_low;
           made = at.made + 1 + 1;
@@ -195,19 +195,19 @@ module _ (t u : Token) (e : ℕ) where
   abbrev N : ℕ
   N = records_of (origin t)
 
-  all_passed : (busy : Option ℕ) → (at : IsScanning t u e N busy) → Went t u (record (after_scan (begun e (state t)) e busy) { steps = at.made })
+  all_passed : (busy : Option ℕ) → (at : HasLookedAt t u e N busy) → Went t u (record (after_scan (begun e (state t)) e busy) { steps = at.made })
   all_passed busy at = went_as t u (record (scanned N (begun e (state t)) e N busy) { steps = at.made }) (record (after_scan (begun e (state t)) e busy) { steps = at.made })
       (record { at = at.at; same = ap origin at.steps; number = ap number at.steps })
       (ap (λ (x : Bool). record (cond x (after_scan (begun e (state t)) e busy) (record (begun e (state t)) { activity = passing e N busy })) { steps = at.made }) (eq-eqb N N refl))
 
-  pub clear : IsScanning t u e N None → HasScanned t u e AllInactive
+  pub clear : HasLookedAt t u e N None → HasScanned t u e AllInactive
   clear at = record { low = at.low; made = at.made; at = (all_passed None at).at; finds = record { looked = at.looked; all = at.count; inactive = at.found; steps = at.steps } }
 
-  pub all_current : (rec : ℕ) → IsScanning t u e N (Some rec) → HasScanned t u e (AllCurrent rec)
+  pub all_current : (rec : ℕ) → HasLookedAt t u e N (Some rec) → HasScanned t u e (AllCurrent rec)
   all_current rec at = record { low = at.low; made = at.made; at = (all_passed (Some rec) at).at; finds = record { looked = at.looked; all = at.count; found = at.found; steps = at.steps } }
 
 -- a record of the registry is one of the token's
-pub low_record : (t u : Token) (e rec : ℕ) (busy : Option ℕ) (now : Table ℕ) → IsScanning t u e rec busy → table u ≡ now → rec < records_of now.origin → rec < records_of (origin t)
+pub low_record : (t u : Token) (e rec : ℕ) (busy : Option ℕ) (now : Table ℕ) → HasLookedAt t u e rec busy → table u ≡ now → rec < records_of now.origin → rec < records_of (origin t)
 low_record t u e rec busy now at is low = subst (λ (o : Origin). rec < records_of o) (sym (ap (λ (x : Table ℕ). x.origin) is) ∙ ap origin at.steps) low
 
 -- the first record that was active, after one more
@@ -216,7 +216,7 @@ first_is None rec = refl
 first_is (Some r) rec = refl
 
 -- after the last record
-pub end_record : (t u : Token) (e rec records : ℕ) (busy : Option ℕ) (d now : Table ℕ) → IsScanning t u e rec busy → table u ≡ now → d ≡ now → d.origin.config ≡ records → rec ≡ records
-    → IsScanning t u e (records_of (origin t)) busy
-end_record t u e rec records busy d now at is keeps told all = subst (λ (k : ℕ). IsScanning t u e k busy)
+pub end_record : (t u : Token) (e rec records : ℕ) (busy : Option ℕ) (d now : Table ℕ) → HasLookedAt t u e rec busy → table u ≡ now → d ≡ now → d.origin.config ≡ records → rec ≡ records
+    → HasLookedAt t u e (records_of (origin t)) busy
+end_record t u e rec records busy d now at is keeps told all = subst (λ (k : ℕ). HasLookedAt t u e k busy)
     (all ∙ (sym told ∙ (ap (λ (x : Table ℕ). records_of x.origin) (keeps ∙ sym is) ∙ ap records_of (ap origin at.steps)))) at

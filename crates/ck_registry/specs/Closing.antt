@@ -8,7 +8,7 @@ use Rattle.ck_run.specs.Machine.{follows_of}
 use Rattle.ck_run.specs.Tokens.{Table, did, number, origin}
 use Rattle.ck_run.specs.Ends.{EachFrom, fresh}
 use Rattle.ck_registry.specs.State.{Origin, registry}
-use Rattle.ck_registry.specs.Epochs.{IsLawful}
+use Rattle.ck_registry.specs.Epochs.{IsRegistryRun}
 use Rattle.ck_registry.specs.Ends.{Visitor}
 
 -- how a table of these words begins
@@ -28,4 +28,4 @@ pub record IsClosedRegistry (table : Table ℕ) (vs : List Visitor) : Type 0 whe
   pub run : Run
   pub is_run : IsRun (follows_of registry) table.origin run
   pub visitors : All (λ (v : Visitor). (origin v.token ≡ table.origin) × (account (number v.token) run ≡ did v.token)) vs
-  pub lawful : IsLawful table.origin run
+  pub lawful : IsRegistryRun table.origin run

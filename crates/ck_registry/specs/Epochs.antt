@@ -66,10 +66,10 @@ KeepsSharedEpochs origin run = (past rest : Run) → run ≡ past ++ rest → Ar
 
 -- The law of a registry: every true run of its calls is safe, for the items of every member and the sections of every record, whoever held it,
 -- and keeps the epochs, and at each moment of it a record is held by at most one member
-pub record IsLawful (origin : Origin) (run : Run) : Type 0 where
+pub record IsRegistryRun (origin : Origin) (run : Run) : Type 0 where
   pub safe : IsSafeForAll origin run
   pub epochs : KeepsSharedEpochs origin run
   pub alone : AreAlone origin run
 
 abbrev pub RegistryLaw : Type 0
-RegistryLaw = (origin : Origin) (run : Run) → IsRun (follows_of registry) origin run → IsLawful origin run
+RegistryLaw = (origin : Origin) (run : Run) → IsRun (follows_of registry) origin run → IsRegistryRun origin run

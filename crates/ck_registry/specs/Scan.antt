@@ -52,8 +52,8 @@ begun e s = record (dispatch (e - 2) s) { calls = s.calls + 1 }
 abbrev pub scanned : ℕ → TokenState → ℕ → ℕ → Option ℕ → TokenState
 scanned records s e rec busy = cond (rec == records) (after_scan s e busy) (record s { activity = passing e rec busy })
 
--- The member that began a scan as t and is u now
-pub record IsScanning (t u : Token) (e rec : ℕ) (busy : Option ℕ) : Type 0 where
+-- The member that began a scan as t and, as u, has looked at the records below `rec`
+pub record HasLookedAt (t u : Token) (e rec : ℕ) (busy : Option ℕ) : Type 0 where
   pub low : number u < (origin u).tokens
   pub made : ℕ
   pub at : IsAt registry u (record (scanned (records_of (origin t)) (begun e (state t)) e rec busy) { steps = made })

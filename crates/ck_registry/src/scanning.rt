@@ -5,7 +5,7 @@ ghost use Rattle.ck_registry.specs.declared.layout.TheConstants.{MOST_CALLS};
 ghost use Rattle.ck_registry.specs.declared.answers.Finding.TheVariants.{OneBehind};
 ghost use Rattle.ck_registry.specs.State.{Token as TokenOf, state, ready, records_of};
 ghost use Rattle.ck_registry.specs.Ends.{IsHolder, IsSameMember, IsRegistryToken};
-ghost use Rattle.ck_registry.specs.Scan.{IsScanning, HasScanned};
+ghost use Rattle.ck_registry.specs.Scan.{HasLookedAt, HasScanned};
 ghost use Rattle.ck_registry.specs.Calls.{IsScan, IsAdvance};
 
 use crate::answers::{Advance, Finding, Scan};
@@ -24,7 +24,7 @@ impl Registry {
         requires calls { (state token.old).calls < MOST_CALLS }
         ensures table { table token.new ≡ table token.old }
         ensures late { 4 ≤ result }
-        ensures scanning { IsScanning token.old token.new result 0 None }
+        ensures scanning { HasLookedAt token.old token.new result 0 None }
     {
         let (_rec, _depth) = (rec, depth); // only the contract reads them
         self.words.load::<Brand>(token, GLOBAL)
@@ -40,10 +40,10 @@ impl Registry {
     ) -> Result<Option<u64>, u64>
         requires table { table token.old ≡ self.now }
         requires rec { rec < records_of self.now.origin }
-        requires scanning { (t : TokenOf) × IsScanning t token.old epoch rec first }
+        requires scanning { (t : TokenOf) × HasLookedAt t token.old epoch rec first }
         ensures table { table token.new ≡ table token.old }
-        ensures outcome { (t : TokenOf) → IsScanning t token.old epoch rec first → MatchResult result
-            (λ busy. IsScanning t token.new epoch (rec + 1) busy)
+        ensures outcome { (t : TokenOf) → HasLookedAt t token.old epoch rec first → MatchResult result
+            (λ busy. HasLookedAt t token.new epoch (rec + 1) busy)
             (λ found. HasScanned t token.new epoch (OneBehind rec found)) }
     {
         let active = self.words.load::<Continues>(token, active_word(rec));
@@ -62,9 +62,9 @@ impl Registry {
     // Goes through the records in order, this member's own among them, up to one that is active with another epoch.
     fn look_at_all(&self, token: &mut Token<u64>, epoch: u64) -> Finding
         requires table { table token.old ≡ self.now }
-        requires scanning { (t : TokenOf) × IsScanning t token.old epoch 0 None }
+        requires scanning { (t : TokenOf) × HasLookedAt t token.old epoch 0 None }
         ensures table { table token.new ≡ table token.old }
-        ensures outcome { (t : TokenOf) → IsScanning t token.old epoch 0 None → HasScanned t token.new epoch result }
+        ensures outcome { (t : TokenOf) → HasLookedAt t token.old epoch 0 None → HasScanned t token.new epoch result }
     {
         let mut first = None;
         for rec in 0..self.records {

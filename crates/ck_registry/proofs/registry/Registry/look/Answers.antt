@@ -1,5 +1,5 @@
 use Rattle.std.proofs.Common.{ℕ, ◌+◌, Some, sym, ap, ◌∙◌, subst}
-use Rattle.ck_registry.specs.Scan.{IsScanning}
+use Rattle.ck_registry.specs.Scan.{HasLookedAt}
 use Rattle.ck_registry.proofs.ScanSteps.{low_record, first_is, may_see, inactive, may_compare, current, behind}
 use Rattle.ck_registry.proofs.registry.Registry.look.Goals as goal
 
@@ -23,7 +23,7 @@ returns-then-found-epoch-clause-outcome c t at =
     let u = c.args.token.now in
     let passed = current t u c.args.epoch c.args.rec c.args.first at (low_record t u c.args.epoch c.args.rec c.args.first c.args.self.now at c.requires.table c.requires.rec) c.load-active.new.token c.active_word.result c.load-active.result c.active_word.ensures c.load-active.ensures.step c.if-active-eq0.false
     c.load-found.new.token c.epoch_word.result c.load-found.result c.epoch_word.ensures c.load-found.ensures.step c.if-found-epoch.true in
-    subst (IsScanning t c.load-found.new.token c.args.epoch (c.args.rec + 1)) (first_is c.args.first c.args.rec ∙ ap (λ (r : ℕ). Some r) (sym c.unwrap_or.ensures)) passed
+    subst (HasLookedAt t c.load-found.new.token c.args.epoch (c.args.rec + 1)) (first_is c.args.first c.args.rec ∙ ap (λ (r : ℕ). Some r) (sym c.unwrap_or.ensures)) passed
 
 pub returns-clause-outcome : goal.returns-clause-outcome
 returns-clause-outcome c t at =
