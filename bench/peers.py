@@ -3,10 +3,10 @@
 
 peers.py [--rounds N] [--workers N] [--loads A,B] [--also LOOKUP] [--check]
 
-It makes the loads and builds peer_ck.c into bench/out, which git doesn't keep. Each round runs each program once on
+It makes the loads and builds peer_ck.c and peer_ck_list.c into bench/out, which git doesn't keep. Each round runs each program once on
 each load, in an order that turns by one from round to round, so that a busy moment hits all alike; the report goes to
 /dev/null. Shown are medians over the rounds, and their ratios to peer_ck's: user and system time together, time by the
-clock, and the greatest resident set. --check compares the reports in place of that.
+clock, and the greatest resident set. --check compares the reports in place of that, of loads with but one right report.
 
 Needed: the proved program at crates/lookup/out/lookup (`./lookup.sh` builds it), gcc, Debian's libck-dev and time.
 """
@@ -24,17 +24,25 @@ from itertools import chain
 
 HERE = os.path.dirname(os.path.abspath(__file__))
 OUT = os.path.join(HERE, "out")
+LOOKUP = os.path.join(HERE, "..", "crates", "lookup", "out", "lookup")
 PROGRAMS = {
-    "peer_ck": [os.path.join(OUT, "peer_ck")],
-    "lookup": [os.path.join(HERE, "..", "crates", "lookup", "out", "lookup"), "table"],
-    "awk": ["awk", "-f", os.path.join(HERE, "peer.awk")],
-    "python": [sys.executable, os.path.join(HERE, "peer.py")],
+    "table": {
+        "peer_ck": [os.path.join(OUT, "peer_ck")],
+        "lookup": [LOOKUP, "table"],
+        "awk": ["awk", "-f", os.path.join(HERE, "peer.awk")],
+        "python": [sys.executable, os.path.join(HERE, "peer.py")],
+    },
+    "list": {
+        "peer_ck": [os.path.join(OUT, "peer_ck_list")],
+        "lookup": [LOOKUP, "list"],
+    },
 }
 TAKE_WORKERS = ("peer_ck", "lookup", "also")
+GCC = ["gcc", "-O3", "-std=gnu11", "-Wall", "-Wextra", "-pthread"]
 MILLION = 1_000_000
 
 
-# Each load has but one right report, so that --check can compare: a query comes after a `wait` for all updates.
+# Of the tables each load has but one right report: a query comes after a `wait` for all updates.
 
 
 def few_sets(rng):
@@ -63,7 +71,64 @@ def wide(rng):
         yield f"q{file}", ["wait 50000"] + [f"get {rng.choice(keys)}" for _ in range(20_000)]
 
 
-LOADS = {load.__name__: load for load in (few_sets, few_gets, mixed, wide)}
+def churn(rng):
+    """a million updates by which at most 40,000 keys come and go, and 4 files of 1,000 queries"""
+    live, updates = [], []
+    for i in range(MILLION):
+        if len(live) < 1_000 or (len(live) < 40_000 and rng.random() < 0.52):
+            live.append(rng.randrange(1, 1 << 63))
+            updates.append(f"set {live[-1]} {i}")
+        else:
+            place = rng.randrange(len(live))
+            live[place], live[-1] = live[-1], live[place]
+            updates.append(f"del {live.pop()}")
+    yield "u", updates
+    for file in range(1, 5):
+        yield f"q{file}", [f"wait {MILLION}"] + [f"get {rng.choice(live)}" for _ in range(1_000)]
+
+
+def low_key(rng):
+    """65,536 keys, and then one key below them that is set and deleted in turn, half a million times"""
+    yield "u", chain((f"set {key} 1" for key in range(2, 65_538)), ("set 1 1" if i % 2 else "del 1" for i in range(MILLION - 65_536)))
+    yield "q1", [f"wait {MILLION}", "get 1"]
+
+
+def changes_of(rng):
+    """4,096 members, and then 200 times 50 drops and adds and a commit"""
+    live = [rng.randrange(1 << 40) for _ in range(4_096)]
+    yield from (f"add {member}" for member in live)
+    yield "commit"
+    for _ in range(200):
+        for _ in range(50):
+            place = rng.randrange(len(live))
+            yield f"drop {live[place]}"
+            live[place] = live[-1]
+            live[-1] = rng.randrange(1 << 40)
+            yield f"add {live[-1]}"
+        yield "commit"
+
+
+def views(rng):
+    """4 files of 250 views of 4,096 members, beside 20,000 edits and 200 commits"""
+    yield "u", changes_of(rng)
+    for file in range(1, 5):
+        yield f"q{file}", ["wait 4097"] + ["all"] * 250
+
+
+def late_views(rng):
+    """the same edits, and then 4 files of 25 views"""
+    yield "u", changes_of(rng)
+    for file in range(1, 5):
+        yield f"q{file}", ["wait 24297"] + ["all"] * 25
+
+
+KIND = {few_sets: "table", few_gets: "table", mixed: "table", wide: "table", churn: "table", low_key: "table", views: "list", late_views: "list"}
+LOADS = {load.__name__: load for load in KIND}
+MANY_REPORTS = ("views",)
+
+
+def programs_of(load):
+    return PROGRAMS[KIND[LOADS[load]]]
 
 
 def files_of(load):
@@ -81,8 +146,8 @@ def files_of(load):
     return names
 
 
-def command(program, workers, files):
-    words = PROGRAMS[program]
+def command(load, program, workers, files):
+    words = programs_of(load)[program]
     return words + (["--workers", str(workers)] if program in TAKE_WORKERS else []) + files
 
 
@@ -103,12 +168,12 @@ def measure(loads, rounds, workers):
     print(f"{os.cpu_count()} processors, load {os.getloadavg()[0]:.1f}, {rounds} rounds, {workers} workers")
     for load in loads:
         files = files_of(load)
-        programs = list(PROGRAMS)
+        programs = list(programs_of(load))
         taken = {program: [] for program in programs}
         for round in range(rounds + 1):
             turn = round % len(programs)
             for program in programs[turn:] + programs[:turn]:
-                one = once(command(program, workers, files))
+                one = once(command(load, program, workers, files))
                 if round:  # the first round brings the files into memory
                     taken[program].append(one)
         middle = {program: [statistics.median(column) for column in zip(*taken[program])] for program in programs}
@@ -122,10 +187,12 @@ def measure(loads, rounds, workers):
 def check(loads, workers):
     alike = True
     for load in loads:
+        if load in MANY_REPORTS:
+            continue
         files = files_of(load)
         sums = {}
-        for program in PROGRAMS:
-            report = subprocess.run(command(program, workers, files), stdout=subprocess.PIPE).stdout
+        for program in programs_of(load):
+            report = subprocess.run(command(load, program, workers, files), stdout=subprocess.PIPE).stdout
             sums[program] = hashlib.sha256(report).hexdigest()[:16]
         same = len(set(sums.values())) == 1
         alike = alike and same
@@ -142,11 +209,11 @@ def main():
     words.add_argument("--check", action="store_true")
     words = words.parse_args()
     if words.also:
-        PROGRAMS["also"] = [os.path.abspath(words.also), "table"]
+        for kind, programs in PROGRAMS.items():
+            programs["also"] = [os.path.abspath(words.also), kind]
     os.makedirs(OUT, exist_ok=True)
-    source, built = os.path.join(HERE, "peer_ck.c"), os.path.join(OUT, "peer_ck")
-    if not os.path.exists(built) or os.path.getmtime(built) < os.path.getmtime(source):
-        subprocess.run(["gcc", "-O3", "-std=gnu11", "-Wall", "-Wextra", "-pthread", "-o", built, source, "-lck"], check=True)
+    for peer in ("peer_ck", "peer_ck_list"):
+        subprocess.run(GCC + ["-o", os.path.join(OUT, peer), os.path.join(HERE, peer + ".c"), "-lck"], check=True)
     loads = words.loads.split(",")
     if words.check:
         check(loads, words.workers)
