@@ -183,4 +183,6 @@ if [ -n "$why" ]; then
     look_at_words "$@"
     build "$why"
 fi
+# Large pieces of memory come in pages of 2 MiB where the kernel has them: less time goes to faults (glibc 2.35 and later).
+export GLIBC_TUNABLES="${GLIBC_TUNABLES:-glibc.malloc.hugetlb=1}"
 exec "$program" "$@"

@@ -6,7 +6,7 @@ peers.py [--rounds N] [--workers N] [--loads A,B] [--also LOOKUP] [--check]
 It makes the loads and builds peer_ck.c and peer_ck_list.c into bench/out, which git doesn't keep. Each round runs each program once on
 each load, in an order that turns by one from round to round, so that a busy moment hits all alike; the report goes to
 /dev/null. Shown are medians over the rounds, and their ratios to peer_ck's: user and system time together, time by the
-clock, and the greatest resident set. --check compares the reports in place of that, of loads with but one right report.
+clock, and the greatest resident set. All programs get memory as lookup.sh asks for it (--small-pages: as glibc gives it). --check compares the reports in place of that, of loads with but one right report.
 
 Needed: the proved program at crates/lookup/out/lookup (`./lookup.sh` builds it), gcc, Debian's libck-dev and time.
 """
@@ -206,11 +206,14 @@ def main():
     words.add_argument("--workers", type=int, default=4)
     words.add_argument("--loads", default=",".join(LOADS))
     words.add_argument("--also", help="a second build of lookup, to be compared to the first")
+    words.add_argument("--small-pages", action="store_true", help="without pages of 2 MiB for large pieces of memory")
     words.add_argument("--check", action="store_true")
     words = words.parse_args()
     if words.also:
         for kind, programs in PROGRAMS.items():
             programs["also"] = [os.path.abspath(words.also), kind]
+    if not words.small_pages:
+        os.environ["GLIBC_TUNABLES"] = "glibc.malloc.hugetlb=1"
     os.makedirs(OUT, exist_ok=True)
     for peer in ("peer_ck", "peer_ck_list"):
         subprocess.run(GCC + ["-o", os.path.join(OUT, peer), os.path.join(HERE, peer + ".c"), "-lck"], check=True)
