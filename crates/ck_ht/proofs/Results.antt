@@ -9,6 +9,7 @@ use Rattle.ck_epoch.specs.declared.about.About.{About}
 use Rattle.ck_epoch.specs.State.{state}
 use Rattle.ck_epoch.specs.Ends.{Writer}
 use Rattle.ck_signal.specs.declared.signals.Signals.{Signals}
+use Rattle.ck_history.specs.declared.event.WriterEvent.TheVariants.{Updated}
 use Rattle.ck_history.specs.declared.log.Busy.{Busy}
 use Rattle.ck_history.specs.declared.update.Reply.{Reply}
 use Rattle.ck_history.specs.declared.update.Update.{Update}
@@ -22,6 +23,7 @@ use Rattle.ck_htlaw.specs.Table.{WriterState}
 use Rattle.ck_htwrite.specs.declared.state.HtState.{HtState}
 use Rattle.ck_htwrite.specs.Writes.{WriterIs}
 use Rattle.ck_ht.specs.Ends.{HtWriter}
+use Rattle.ck_ht.specs.Events.{hand_events}
 use Rattle.ck_ht.specs.Room.{HasRoomFor}
 use Rattle.ck_ht.specs.Updating.{IsBusy, IsUpdated, MakesUpdate}
 
@@ -55,6 +57,10 @@ module _ (F : Type 0) (u : Update ℕ) (d : Table (About (Signals HtClient))) (w
   pub log_of : (r : Result Reply Busy) → Does F u r v s d w → MatchResult r (λ x. (knows with_signals d.origin v.token).log ≡ (knows with_signals d.origin w.writer.token).log ++ record { update = u; reply = x } ∷ []) (λ b. (knows with_signals d.origin v.token).log ≡ (knows with_signals d.origin w.writer.token).log)
   log_of (Ok x) h = h.log
   log_of (Err b) h = h.log
+
+  pub events_of : (r : Result Reply Busy) → Does F u r v s d w → MatchResult r (λ x. hand_events d.origin v.token ≡ hand_events d.origin w.writer.token ++ Updated u x ∷ []) (λ b. hand_events d.origin v.token ≡ hand_events d.origin w.writer.token)
+  events_of (Ok x) h = h.events
+  events_of (Err b) h = h.events
 
   pub steps_of : (r : Result Reply Busy) → Does F u r v s d w → IfOk r (λ x. (p : WriterState) → WriterIs with_signals d.origin w.writer.token p → MakesUpdate d.origin u p w.writer.token v.token)
   steps_of (Ok x) h = h.steps

@@ -15,7 +15,7 @@ use Rattle.ck_htlaw.specs.Linearized.{map_after}
 use Rattle.ck_htlaw.specs.Reached.{with_signals}
 use Rattle.ck_ht.specs.Ends.{HtWriter}
 use Rattle.ck_ht.specs.Room.{HasRoomFor}
-use Rattle.ck_ht.proofs.Results.{log_of, outside, pending_of, reply_of, same_of, steps_of, tally_of}
+use Rattle.ck_ht.proofs.Results.{events_of, log_of, outside, pending_of, reply_of, same_of, steps_of, tally_of}
 use Rattle.ck_ht.proofs.table.Ht.set.Goals as goal
 
 pub apply-requires-clause-handler : goal.apply-requires-clause-handler
@@ -35,6 +35,9 @@ returns-clause-tally g c = let F = g.row.F.Denot in let u = Set c.args.key c.arg
 
 pub returns-clause-log : goal.returns-clause-log
 returns-clause-log g c = let F = g.row.F.Denot in let u = Set c.args.key c.args.value in let a = c.apply in let v = a.new.writer in let s = a.new.state in let d = c.args.self.now in let w = c.args.w.now in log_of F u d w v s a.result (outside F u a.result v s c.self.inside.domain d (record { writer = c.w.inside.writer; state = c.w.inside.state }) w c.self.view_is c.w.view_is a.ensures.done)
+
+pub returns-clause-events : goal.returns-clause-events
+returns-clause-events g c = let F = g.row.F.Denot in let u = Set c.args.key c.args.value in let a = c.apply in let v = a.new.writer in let s = a.new.state in let d = c.args.self.now in let w = c.args.w.now in events_of F u d w v s a.result (outside F u a.result v s c.self.inside.domain d (record { writer = c.w.inside.writer; state = c.w.inside.state }) w c.self.view_is c.w.view_is a.ensures.done)
 
 pub returns-clause-steps : goal.returns-clause-steps
 returns-clause-steps g c = let F = g.row.F.Denot in let u = Set c.args.key c.args.value in let a = c.apply in let v = a.new.writer in let s = a.new.state in let d = c.args.self.now in let w = c.args.w.now in steps_of F u d w v s a.result (outside F u a.result v s c.self.inside.domain d (record { writer = c.w.inside.writer; state = c.w.inside.state }) w c.self.view_is c.w.view_is a.ensures.done)

@@ -1,0 +1,6 @@
+pub mod Steps
+pub mod Epochs
+pub mod Calls
+pub mod Places
+pub mod Placed
+pub mod Bounded
