@@ -1,6 +1,6 @@
 -- The signal calls of an array, and its sections: they leave its tokens where they stand, and are events or none.
 use Rattle.std.proofs.Common.{◌≡◌, ℕ, suc, ◌+◌, ◌<◌, ◌≤◌, ◌⊎◌, ⊎_elim, inl, inr, false, List, [], ◌∷◌, ◌++◌, length, map, refl, sym, ap, ◌∙◌, subst, arith}
-use Rattle.std.specs.Prelude.{Result, Ok, Err, MatchResult}
+use Rattle.std.specs.Prelude.{Result}
 use Rattle.ck_run.specs.declared.account.Step.{Step}
 use Rattle.ck_run.specs.declared.account.Entry.{Entry}
 use Rattle.ck_run.specs.Range.{word_of}
@@ -16,7 +16,7 @@ use Rattle.ck_signal.specs.declared.signals.Signals.{Signals}
 use Rattle.ck_signal.specs.Words.{reaches, notes, marks, asks}
 use Rattle.ck_signal.specs.Signals.{readers}
 use Rattle.ck_signal.specs.Told.{applied_word_of, answered_word_of, writer_log, pass_answers}
-use Rattle.ck_events.proofs.Steps.{silent_below}
+use Rattle.ck_events.proofs.Steps.{silent_below, Reaches, reaches_once}
 use Rattle.ck_events.proofs.Steps as steps
 use Rattle.ck_arena.specs.Arena.{AreItems, unreturned}
 use Rattle.ck_arraylaw.specs.declared.client.ArrayClient.{ArrayClient}
@@ -90,28 +90,16 @@ module _ (o : Origin (Signals ArrayClient)) where
   answers_none : (p : Pass (Signals ArrayClient)) (e : Entry) → IsPassReady o p → is_array_word f b e.step ≡ false → (known o).answers ((known o).next (knows with_signals o p.token) e) ≡ (known o).answers (knows with_signals o p.token)
   answers_none p e ready off = ap (λ (x : LocalState). map answer_of (answers_of x)) (ap (λ (x : LocalState). (known o).next x e) ready.local ∙ (reader_still with_signals o ready.answers e off ∙ sym ready.local))
 
-  abbrev pub Reaches : Pass (Signals ArrayClient) → Pass (Signals ArrayClient) → ℕ → Result (Unit {0}) ℕ → Type 0
-  Reaches p q n result = MatchResult result
-      (λ _. (found : ℕ) × (n ≤ found) × (q ≡ record p { token = adding p.token (reaches (applied_word_of array o) n found ∷ []) }))
-      (λ found. (found < n) × (q ≡ record p { token = adding p.token (reaches (applied_word_of array o) n found ∷ []) }))
-
-  pub reached_still : (p q : Pass (Signals ArrayClient)) (n : ℕ) (result : Result (Unit {0}) ℕ) → IsPassReady o p → Reaches p q n result
+  pub reached_still : (p q : Pass (Signals ArrayClient)) (n : ℕ) (result : Result (Unit {0}) ℕ) → IsPassReady o p → Reaches array o p q n result
       → IsPassReady o q × SameAnswers p q × (pass_events o q.token ≡ pass_events o p.token ++ Reached n result ∷ [])
   reached_still p q n result ready step =
-      let s = still result step in (
+      let once = reaches_once array o p q n result step in
+      let s = signal_still p q (reaches (applied_word_of array o) n once.0) 0 ready once.1 (inl refl) refl in (
         s.0,
         s.1,
-        steps.reached_event_is array o (known o) p.token q.token n result (token_of result step) (ap (λ (x : LocalState). is_no_read (read_stage_of x)) ready.local)
+        steps.reached_event_is array o (known o) p q n result step (ap (λ (x : LocalState). is_no_read (read_stage_of x)) ready.local)
             (λ found. answers_none p (reaches (applied_word_of array o) n found) ready (off_word (reaches (applied_word_of array o) n found).step 0 (inl refl))),
       )
-    where
-      still : (result : Result (Unit {0}) ℕ) → Reaches p q n result → IsPassReady o q × SameAnswers p q
-      still (Ok u) step = signal_still p q (reaches (applied_word_of array o) n step.0) 0 ready step.2 (inl refl) refl
-      still (Err found) step = signal_still p q (reaches (applied_word_of array o) n found) 0 ready step.1 (inl refl) refl
-
-      token_of : (result : Result (Unit {0}) ℕ) → Reaches p q n result → steps.Reaches array o (known o) p.token q.token n result
-      token_of (Ok u) step = (step.0, step.1, ap (λ (x : Pass (Signals ArrayClient)). x.token) step.2)
-      token_of (Err found) step = (step.0, ap (λ (x : Pass (Signals ArrayClient)). x.token) step.1)
 
   -- a pass's tally as signals count it
   pub answers_counted : (p : Pass (Signals ArrayClient)) → origin p.token ≡ o → IsPassReady o p → p.tally ≡ pass_answers array p.token

@@ -19,6 +19,7 @@ use Rattle.ck_history.specs.declared.event.WriterEvent.{WriterEvent}
 use Rattle.ck_history.specs.declared.event.WriterEvent.TheVariants.{Updated, Told}
 use Rattle.ck_epoch.specs.State.{Origin, Token, base_of}
 use Rattle.ck_epoch.specs.Client.{Client}
+use Rattle.ck_epoch.specs.Ends.{Pass}
 use Rattle.ck_signal.specs.declared.signals.Signals.{Signals}
 use Rattle.ck_signal.specs.Signals.{readers}
 use Rattle.ck_signal.specs.Words.{reached, answered, reaches, marks, asks}
@@ -121,6 +122,17 @@ module _ {C : Type 0} (client : Client C) (o : Origin (Signals C)) where
   silent_below (e ∷ es) h = let low = (All-head (λ (e : Entry). (word_of e.step < base_of o) × (e.item ≡ [])) e es h).0 in
       ((λ wanted found opens step. let same : word_of e.step ≡ applied_word_of client o = ap word_of step in absurd (omega arith)), silent_below es (All-tail (λ (e : Entry). (word_of e.step < base_of o) × (e.item ≡ [])) e es h))
 
+  -- what `reached` did with a pass
+  abbrev pub Reaches : Pass (Signals C) → Pass (Signals C) → ℕ → Result (Unit {0}) ℕ → Type 0
+  Reaches p q n result = MatchResult result
+      (λ _. (found : ℕ) × (n ≤ found) × (q ≡ record p { token = adding p.token (reaches (applied_word_of client o) n found ∷ []) }))
+      (λ found. (found < n) × (q ≡ record p { token = adding p.token (reaches (applied_word_of client o) n found ∷ []) }))
+
+  -- by one step
+  pub reaches_once : (p q : Pass (Signals C)) (n : ℕ) (result : Result (Unit {0}) ℕ) → Reaches p q n result → (found : ℕ) × (q ≡ record p { token = adding p.token (reaches (applied_word_of client o) n found ∷ []) })
+  reaches_once p q n (Ok met) step = (step.0, step.2)
+  reaches_once p q n (Err found) step = (found, step.1)
+
   no_event : {Q A : Type 0} (g : Bool) (e : Entry) → IsSilent e → reached_event client o {Q = Q} {A = A} g e.opens e.step ≡ []
   no_event {Q} {A} g e silent = ⊎_elim (λ h. h) (λ h. absurd (silent h.0 h.1 h.3 h.4)) (reached_is g e.opens e.step)
 
@@ -155,11 +167,6 @@ module _ {C : Type 0} (client : Client C) (o : Origin (Signals C)) where
     hand_events_grow t u es made = ap (events_of_hand client o known) made ∙ writer_events-append (known.start (number t)) (did t) es
 
     -- a step of `reached` by a reader between two queries, which answers nothing
-    abbrev pub Reaches : Token (Signals C) → Token (Signals C) → ℕ → Result (Unit {0}) ℕ → Type 0
-    Reaches t u n result = MatchResult result
-        (λ _. (found : ℕ) × (n ≤ found) × (u ≡ adding t (reaches (applied_word_of client o) n found ∷ [])))
-        (λ found. (found < n) × (u ≡ adding t (reaches (applied_word_of client o) n found ∷ [])))
-
     pub reach_event : (t u : Token (Signals C)) (n found : ℕ) → u ≡ adding t (reaches (applied_word_of client o) n found ∷ []) → known.is_out (knows t) ≡ true
         → known.answers (known.next (knows t) (reaches (applied_word_of client o) n found)) ≡ known.answers (knows t) → events_of_pass client o known u ≡ events_of_pass client o known t ++ Reached n (reached_result n found) ∷ []
     reach_event t u n found made out none =
@@ -169,12 +176,15 @@ module _ {C : Type 0} (client : Client C) (o : Origin (Signals C)) where
         ∙ ap (λ (c : Bool). cond {A = List (ReaderEvent Q A)} c (Reached n (reached_result n found) ∷ []) []) (both 12 (applied_word_of client o)) in
         pass_events_grow t u (e ∷ []) made ∙ ap (λ (xs : List (ReaderEvent Q A)). events_of_pass client o known t ++ xs) (append-nil (reader_event client o known (knows t) e) ∙ event)
 
-    pub reached_event_is : (t u : Token (Signals C)) (n : ℕ) (result : Result (Unit {0}) ℕ) → Reaches t u n result → known.is_out (knows t) ≡ true
-        → ((found : ℕ) → known.answers (known.next (knows t) (reaches (applied_word_of client o) n found)) ≡ known.answers (knows t)) → events_of_pass client o known u ≡ events_of_pass client o known t ++ Reached n result ∷ []
-    reached_event_is t u n (Ok met) step out none =
-        reach_event t u n step.0 step.2 out (none step.0) ∙ ap (λ (r : Result (Unit {0}) ℕ). events_of_pass client o known t ++ Reached n r ∷ []) (result_ok n step.0 step.1)
-    reached_event_is t u n (Err found) step out none =
-        reach_event t u n found step.1 out (none found) ∙ ap (λ (r : Result (Unit {0}) ℕ). events_of_pass client o known t ++ Reached n r ∷ []) (result_err n found step.0)
+    pub reached_event_is : (p q : Pass (Signals C)) (n : ℕ) (result : Result (Unit {0}) ℕ) → Reaches p q n result → known.is_out (knows p.token) ≡ true
+        → ((found : ℕ) → known.answers (known.next (knows p.token) (reaches (applied_word_of client o) n found)) ≡ known.answers (knows p.token))
+        → events_of_pass client o known q.token ≡ events_of_pass client o known p.token ++ Reached n result ∷ []
+    reached_event_is p q n (Ok met) step out none =
+        reach_event p.token q.token n step.0 (ap (λ (x : Pass (Signals C)). x.token) step.2) out (none step.0)
+        ∙ ap (λ (r : Result (Unit {0}) ℕ). events_of_pass client o known p.token ++ Reached n r ∷ []) (result_ok n step.0 step.1)
+    reached_event_is p q n (Err found) step out none =
+        reach_event p.token q.token n found (ap (λ (x : Pass (Signals C)). x.token) step.1) out (none found)
+        ∙ ap (λ (r : Result (Unit {0}) ℕ). events_of_pass client o known p.token ++ Reached n r ∷ []) (result_err n found step.0)
 
     -- a step of the writer that answers nothing
     pub writer_step : (t u : Token (Signals C)) (e : Entry) → u ≡ adding t (e ∷ []) → known.log (known.next (knows t) e) ≡ known.log (knows t)
