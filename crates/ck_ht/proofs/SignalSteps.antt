@@ -1,6 +1,6 @@
 -- The signal calls of a table: they leave its tokens where they stand, and are events or none.
 use Rattle.std.proofs.Common.{◌≡◌, ℕ, ◌+◌, ◌<◌, ◌≤◌, ◌⊎◌, ⊎_elim, inl, inr, false, List, [], ◌∷◌, ◌++◌, length, map, append-nil, refl, sym, ap, ◌∙◌, subst, arith}
-use Rattle.std.specs.Prelude.{Option, Result, Ok, Err, MatchResult}
+use Rattle.std.specs.Prelude.{Option, Result}
 use Rattle.ck_run.specs.declared.account.Step.{Step}
 use Rattle.ck_run.specs.declared.account.Entry.{Entry}
 use Rattle.ck_run.specs.Range.{word_of}
@@ -15,7 +15,7 @@ use Rattle.ck_signal.specs.Told.{applied_word_of, answered_word_of, writer_log, 
 use Rattle.ck_history.specs.declared.event.ReaderEvent.TheVariants.{Reached}
 use Rattle.ck_history.specs.declared.event.WriterEvent.TheVariants.{Told}
 use Rattle.ck_history.specs.declared.log.LogEntry.{LogEntry}
-use Rattle.ck_events.proofs.Steps.{silent_below}
+use Rattle.ck_events.proofs.Steps.{silent_below, Reaches, reaches_once}
 use Rattle.ck_events.proofs.Steps as steps
 use Rattle.ck_htlaw.specs.declared.client.HtClient.{HtClient}
 use Rattle.ck_htlaw.specs.Client.{Answers, table, answers_after, answers_next, layout_of}
@@ -72,29 +72,17 @@ module _ (o : Origin (Signals HtClient)) where
       let looks = ap (λ (t : LookTotals). t.looks) s.1 in
       (s.0, s.1, steps.no_events table o (known o) (answers_grow o) p.token q.token (notes (answered_word_of table o r) n ∷ []) (ap (λ (x : Pass (Signals HtClient)). x.token) made) ((λ wanted found opens step. cc), tt) looks)
 
-  abbrev Reaches : Pass (Signals HtClient) → Pass (Signals HtClient) → ℕ → Result (Unit {0}) ℕ → Type 0
-  Reaches p q n result = MatchResult result
-      (λ _. (found : ℕ) × (n ≤ found) × (q ≡ record p { token = adding p.token (reaches (applied_word_of table o) n found ∷ []) }))
-      (λ found. (found < n) × (q ≡ record p { token = adding p.token (reaches (applied_word_of table o) n found ∷ []) }))
-
-  pub reached_still : (p q : Pass (Signals HtClient)) (n : ℕ) (result : Result (Unit {0}) ℕ) → IsPassReady o p → Reaches p q n result
+  pub reached_still : (p q : Pass (Signals HtClient)) (n : ℕ) (result : Result (Unit {0}) ℕ) → IsPassReady o p → Reaches table o p q n result
       → IsPassReady o q × (totals_of (knows with_signals o q.token) ≡ totals_of (knows with_signals o p.token)) × (pass_events o q.token ≡ pass_events o p.token ++ Reached n result ∷ [])
   reached_still p q n result ready step =
-      let s = still result step in (
+      let once = reaches_once table o p q n result step in
+      let s = signal_still p q (reaches (applied_word_of table o) n once.0) 0 ready once.1 (inl refl) in
+      let a : Answers = knows with_signals o p.token in (
         s.0,
         s.1,
-        steps.reached_event_is table o (known o) p.token q.token n result (token_of result step) (ap is_no_look (ap look_state_of ready.local ∙ ready.outside))
-            (λ found. let a : Answers = knows with_signals o p.token in let e : Entry = reaches (applied_word_of table o) n found in
-            ap (λ (xs : List (ℕ × Option ℕ)). a.looks ++ xs) (looks_still k a.local e (off_word e.step 0 (inl refl))) ∙ append-nil a.looks),
+        steps.reached_event_is table o (known o) p q n result step (ap is_no_look (ap look_state_of ready.local ∙ ready.outside))
+            (λ found. ap (λ (xs : List (ℕ × Option ℕ)). a.looks ++ xs) (looks_still k a.local (reaches (applied_word_of table o) n found) (off_word (reaches (applied_word_of table o) n found).step 0 (inl refl))) ∙ append-nil a.looks),
       )
-    where
-      still : (result : Result (Unit {0}) ℕ) → Reaches p q n result → IsPassReady o q × (totals_of (knows with_signals o q.token) ≡ totals_of (knows with_signals o p.token))
-      still (Ok u) step = signal_still p q (reaches (applied_word_of table o) n step.0) 0 ready step.2 (inl refl)
-      still (Err found) step = signal_still p q (reaches (applied_word_of table o) n found) 0 ready step.1 (inl refl)
-
-      token_of : (result : Result (Unit {0}) ℕ) → Reaches p q n result → steps.Reaches table o (known o) p.token q.token n result
-      token_of (Ok u) step = (step.0, step.1, ap (λ (x : Pass (Signals HtClient)). x.token) step.2)
-      token_of (Err found) step = (step.0, ap (λ (x : Pass (Signals HtClient)). x.token) step.1)
 
   -- a pass's tally as signals count it
   pub answers_counted : (p : Pass (Signals HtClient)) → origin p.token ≡ o → IsPassReady o p → p.tally ≡ pass_answers table p.token
