@@ -7,14 +7,14 @@ use Rattle.ck_run.specs.Run.{Run, account}
 use Rattle.ck_run.proofs.Runs.{account_here, account_else}
 use Rattle.ck_run.proofs.Law.{state-append}
 use Rattle.ck_epoch.specs.State.{Origin}
-use Rattle.ck_events.proofs.Calls.{IsAnsweredCall, AddsAnswer, answered_call}
+use Rattle.ck_events.proofs.Calls.{AddsAnswer, answered_call}
 use Rattle.ck_arraylaw.specs.Array.{ReadStage, no_read, at_length, at_member, ReaderState, LocalState, reader, collected, read_next, given_up, after_read, after_own, after_other, found_by, is_array_word, is_section, array_next}
 use Rattle.ck_arraylaw.specs.Calls.{is_single_load}
 use Rattle.ck_arraylaw.specs.Client.{array_start, first_reader, local_after, answers_of}
 use Rattle.ck_arraylaw.specs.Host.{Host, floor_word, base_word}
 use Rattle.ck_arraylaw.specs.Layout.{members_at}
 use Rattle.ck_arraylaw.specs.Law.{local_in, read_stage_of}
-use Rattle.ck_array.specs.Answered.{answers_in, IsAnsweredAll}
+use Rattle.ck_array.specs.Answered.{answers_in, IsOut, IsAnsweredAll}
 use Rattle.ck_array.proofs.Elsewhere.{reader_stays}
 
 pub is_out : (g : ReadStage) → (g ≡ no_read) ⊎ (g ≡ no_read → ⊥)
@@ -60,10 +60,7 @@ module _ {D : Type 0} (host : Host D) (origin : Origin D) (r : ℕ) where
   abbrev local : Run → LocalState
   local run = local_in host origin run (suc r)
 
-  abbrev pub IsOut : Run → Type 0
-  IsOut run = read_stage_of (local run) ≡ no_read
-
-  abbrev pub given : Run → List (List ℕ)
+  abbrev given : Run → List (List ℕ)
   given run = answers_in host origin run r
 
   local_else : (past : Run) (n : ℕ) (e : Entry) → n ≢ suc r → local (past ++ (n, e) ∷ []) ≡ local past
@@ -72,7 +69,7 @@ module _ {D : Type 0} (host : Host D) (origin : Origin D) (r : ℕ) where
   local_here : (past : Run) (e : Entry) → local (past ++ (suc r, e) ∷ []) ≡ array_next f b (local past) e
   local_here past e = ap (λ (es : List Entry). local_after f b (suc r) es) (account_here past (suc r) (suc r) e refl) ∙ state-append (array_next f b) (array_start (suc r)) (account (suc r) past) (e ∷ [])
 
-  by_itself : (past : Run) (e : Entry) → AddsAnswer (suc r) IsOut given past e
+  by_itself : (past : Run) (e : Entry) → AddsAnswer (suc r) (IsOut host origin r) given past e
   by_itself past e =
       let y = reader_stays f b first_reader (account (suc r) past) in
       let next : local (past ++ (suc r, e) ∷ []) ≡ array_next f b (reader y.0) e = local_here past e ∙ ap (λ (x : LocalState). array_next f b x e) y.1 in
@@ -82,35 +79,6 @@ module _ {D : Type 0} (host : Host D) (origin : Origin D) (r : ℕ) where
       (step_adds f b y.0 e)
 
   -- the answer with the number i
-  pub answered_by : (run : Run) (i : ℕ) (members : List ℕ) → get_elem? (answers_in host origin run r) i ≡ some members → IsAnsweredCall (suc r) IsOut given run i members
-  answered_by run i members at = answered_call (suc r) IsOut given (λ past. is_out (read_stage_of (local past))) refl refl
+  pub answered_all : (run : Run) (i : ℕ) (members : List ℕ) → get_elem? (answers_in host origin run r) i ≡ some members → IsAnsweredAll host origin run r i members
+  answered_all run i members at = answered_call (suc r) (IsOut host origin r) given (λ past. is_out (read_stage_of (local past))) refl refl
       (λ past n e other. (λ z. ap read_stage_of (local_else past n e other) ∙ z, ap answers_of (local_else past n e other))) by_itself run i members at
-
-  pub answered_all : (run : Run) (i : ℕ) (members : List ℕ) → IsAnsweredCall (suc r) IsOut given run i members → IsAnsweredAll host origin run r i members
-  answered_all run i members h = record {
-    past = h.past;
-    first = h.first;
-    between = h.between;
-    last = h.last;
-    rest = h.rest;
-    splits = h.splits;
-    reading = record { starts = h.starts; goes = h.goes };
-    answers = h.ends;
-    before = h.before;
-    still = h.still;
-  }
-
-  abbrev pub call_of : (run : Run) (i : ℕ) (members : List ℕ) → IsAnsweredAll host origin run r i members → IsAnsweredCall (suc r) IsOut given run i members
-  call_of run i members h = record {
-    past = h.past;
-    first = h.first;
-    between = h.between;
-    last = h.last;
-    rest = h.rest;
-    splits = h.splits;
-    starts = h.reading.starts;
-    goes = h.reading.goes;
-    ends = h.answers;
-    before = h.before;
-    still = h.still;
-  }

@@ -116,9 +116,9 @@ module _ (told : TrueSignals array) (laws : (o : Origin (Signals ArrayClient)) �
     right : AreRight array o (known o) told (linearized with_signals o) (mono with_signals o (laws o)) (has_logged o (laws o)) c.run c.is_run num.0 (λ p q. committed_after (edits_in with_signals o c.run) p) (place num.0)
     right = let h = all_have num.0 in record {
       gave = λ i x at. let m = mapped answer_of (answers_in with_signals o c.run num.0) i x at in ap (λ (x : Unit {0} × List ℕ). x.1) (sym m.2) ∙ h.gave i m.0 m.1;
-      rise = λ i j le low. h.rise i j le (let l = long num.0 c.run in omega arith);
-      before = λ past rest i e given. h.before past rest i e (let l = long num.0 past in omega arith);
-      since = λ past rest i e is_out few low. h.since past rest i e (no_read_is (read_stage_of (local_in with_signals o past (suc num.0))) is_out) (let l = long num.0 past in omega arith) (let l = long num.0 c.run in omega arith);
+      rise = λ i j le low. h.are.rise i j le (let l = long num.0 c.run in omega arith);
+      before = λ past rest i e given. h.are.before past rest i e (let l = long num.0 past in omega arith);
+      since = λ past rest i e is_out few low. h.are.since past rest i e (no_read_is (read_stage_of (local_in with_signals o past (suc num.0))) is_out) (let l = long num.0 past in omega arith) (let l = long num.0 c.run in omega arith);
     }
 
     placed_p : ArePlacedInLog (edits_by o w) (pass_events o p) (places (rec_of p))
@@ -141,7 +141,7 @@ module _ (told : TrueSignals array) (laws : (o : Origin (Signals ArrayClient)) �
       (subst (λ (es : List Entry). AreBoundedFrom places 0 (writer_events array o (known o) (array_start 0) es)) mine
       (subst (λ (ps : ℕ → List ℕ). AreBoundedFrom ps 0 (writer_events array o (known o) (array_start 0) (account 0 c.run))) (λ i r. places_from (place r) 0 (long r c.run i))
       (bounded array o (known o) (log_grows o) told (linearized with_signals o) (few_given o) (log_is_whole o) c.run c.is_run place
-      (λ r past rest i e given. (all_have r).before past rest i e (let l = long r past in omega arith)) refl)))
+      (λ r past rest i e given. (all_have r).are.before past rest i e (let l = long r past in omega arith)) refl)))
 
   pub is_closed : IsClosedArray w ps words
   is_closed = record {

@@ -18,8 +18,8 @@ use Rattle.ck_arraylaw.specs.Client.{array_start, local_after, answers_of}
 use Rattle.ck_arraylaw.specs.Host.{Host, floor_word, base_word}
 use Rattle.ck_arraylaw.specs.Law.{ArrayLaw, IsArrayRun, local_in, edits_in, linearized, until}
 use Rattle.ck_arraylaw.specs.Laws.{answers_go_on}
-use Rattle.ck_array.specs.Answered.{answers_in, HasPlace, PlacesLaw}
-use Rattle.ck_array.proofs.Answering.{IsOut, given, answered_by, answered_all, call_of}
+use Rattle.ck_array.specs.Answered.{answers_in, IsOut, HasPlace, PlacesLaw}
+use Rattle.ck_array.proofs.Answering.{answered_all}
 
 answers_grow : (f b : ℕ) (h : LocalState) (es : List Entry) → length (answers_of h) ≤ length (answers_of (state_after (array_next f b) h es))
 answers_grow f b h [] = omega arith
@@ -37,15 +37,18 @@ module _ {D : Type 0} (host : Host D) (origin : Origin D) (law : ArrayLaw host o
   mono a b rest t = let g = law.grows a b rest t in let n = ap (λ (l : List Edit). length l) g.1 ∙ length-append (edits_in host origin a) g.0 in omega arith
 
   module _ (r : ℕ) where
-    rise : (a b : Run) → length (given host origin r a) ≤ length (given host origin r (a ++ b))
-    rise a b = let f = floor_word host origin in let w = base_word host origin in subst (λ (n : ℕ). length (given host origin r a) ≤ n)
+    abbrev given : Run → List (List ℕ)
+    given run = answers_in host origin run r
+
+    rise : (a b : Run) → length (given a) ≤ length (given (a ++ b))
+    rise a b = let f = floor_word host origin in let w = base_word host origin in subst (λ (n : ℕ). length (given a) ≤ n)
         (sym (ap (λ (es : List Entry). length (answers_of (local_after f w (suc r) es))) (account-append (suc r) a b)
         ∙ ap (λ (x : LocalState). length (answers_of x)) (state-append (array_next f w) (array_start (suc r)) (account (suc r) a) (account (suc r) b))))
         (answers_grow f w (local_in host origin a (suc r)) (account (suc r) b))
 
     module _ (run : Run) (t : True run) where
       abbrev Placed : ℕ → List ℕ → ℕ → Type 0
-      Placed i members p = IsPlaced (suc r) (IsOut host origin r) (given host origin r) many True run i members p
+      Placed i members p = IsPlaced (suc r) (IsOut host origin r) given many True run i members p
 
       -- its first step is the moment
       placed : (i : ℕ) (members : List ℕ) (p : ℕ) → HasPlace host origin run r i members p → Placed i members p
@@ -54,13 +57,13 @@ module _ {D : Type 0} (host : Host D) (origin : Origin D) (law : ArrayLaw host o
           let end = until a.past r a.first a.between in
           let to_first : run ≡ a.past ++ ((suc r, a.first) ∷ a.between ++ (suc r, a.last) ∷ a.rest) = a.splits ∙ append_assoc a.past ((suc r, a.first) ∷ a.between) ((suc r, a.last) ∷ a.rest) in
           record {
-            call = call_of host origin r run i members a;
+            call = a;
             least = subst (λ (n : ℕ). many a.past ≤ n) h.is (omega arith);
             most = subst (λ (n : ℕ). n ≤ many end) h.is (mono a.past ((suc r, a.first) ∷ a.between) ((suc r, a.last) ∷ a.rest) (subst True to_first t));
           }
 
       a_place : (i : ℕ) (members : List ℕ) → get_elem? (answers_in host origin run r) i ≡ some members → (p : ℕ) × HasPlace host origin run r i members p
-      a_place i members at = let a = answered_all host origin r run i members (answered_by host origin r run i members at) in (many a.past, record { answered = a; is = refl })
+      a_place i members at = let a = answered_all host origin r run i members at in (many a.past, record { answered = a; is = refl })
 
       -- the answer is the list that was committed then
       gave : (i : ℕ) (members : List ℕ) (p : ℕ) → HasPlace host origin run r i members p → members ≡ committed_after (edits_in host origin run) p
@@ -70,13 +73,13 @@ module _ {D : Type 0} (host : Host D) (origin : Origin D) (law : ArrayLaw host o
           let to_first : run ≡ a.past ++ ahead = a.splits ∙ append_assoc a.past ((suc r, a.first) ∷ a.between) ((suc r, a.last) ∷ a.rest) in
           let us = edits_in host origin a.past in
           let g = law.grows a.past ahead [] (subst True (to_first ∙ ap (λ (m : Run). a.past ++ m) (sym (append-nil ahead))) t) in
-          law.answers a.past a.between a.rest r a.first a.last members (subst True a.splits t) a.reading a.answers
+          law.answers a.past a.between a.rest r a.first a.last members (subst True a.splits t) (record { starts = a.starts; goes = a.goes }) a.ends
           ∙ (ap (λ (l : List Edit). (lists_after_from empty_lists l).committed) (sym (take-length us))
           ∙ (sym (committed_after-append us g.0 (length us) (omega arith)) ∙ ((λ j. committed_after (sym g.1 j) (length us)) ∙ (λ j. committed_after (edits_in host origin (sym to_first j)) (h.is j)))))
 
   pub places_law : PlacesLaw host origin
   places_law run r t =
-      let h = have_places (suc r) (IsOut host origin r) (given host origin r) many True mono (rise r) run t (HasPlace host origin run r) (placed r run t) (a_place r run t) in (
+      let h = have_places (suc r) (IsOut host origin r) (given r) many True mono (rise r) run t (HasPlace host origin run r) (placed r run t) (a_place r run t) in (
         h.0,
-        record { moments = h.1.moments; gave = λ i members at. gave r run t i members (h.0 i) (h.1.moments i members at); rise = h.1.rise; before = h.1.before; since = h.1.since },
+        record { are = h.1; gave = λ i members at. gave r run t i members (h.0 i) (h.1.moments i members at) },
       )

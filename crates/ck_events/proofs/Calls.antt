@@ -7,6 +7,7 @@ use lib.ListN.{get_elem?}
 use Rattle.ck_run.specs.declared.account.Entry.{Entry}
 use Rattle.ck_run.specs.Run.{Run}
 use Rattle.ck_run.proofs.Lists.{at_end}
+use Rattle.ck_events.specs.Answered.{since_step, IsAnsweredCall}
 
 -- what each step keeps holds of every run
 along : (P : Run → Type 0) → ((past : Run) (n : ℕ) (e : Entry) → P past → P (past ++ (n, e) ∷ [])) → P [] → (run : Run) → P run
@@ -35,27 +36,7 @@ cut_last [] (b ∷ before) behind a e = let z : a ≡ b = ap (first_of a) e in l
 cut_last (x ∷ xs) (b ∷ before) behind a e = let z : x ≡ b = ap (first_of a) e in
     ⊎_elim (λ (s : before ≡ xs ++ a ∷ []). inl (λ i. sym z i ∷ s i)) (λ (s : (less : Run) × (xs ≡ before ++ less)). inr (s.0, λ i. z i ∷ s.1 i)) (cut_last xs before behind a (ap rest_of e))
 
--- The token n is a reader. At each moment of a run it is between two calls, or not, and has given some answers
 module _ {A : Type 0} (n : ℕ) (IsOut : Run → Type 0) (given : Run → List A) where
-  -- the moment by which these steps are past since its step e
-  abbrev pub since_step : Run → Entry → Run → Run
-  since_step past e between = past ++ (n, e) ∷ between
-
-  -- It gave its answer with the number i, from 0, by this call of the run
-  pub record IsAnsweredCall (run : Run) (i : ℕ) (answer : A) : Type 0 where
-    pub past : Run
-    pub first : Entry
-    pub between : Run
-    pub last : Entry
-    pub rest : Run
-    pub splits : run ≡ since_step past first between ++ (n, last) ∷ rest
-    pub starts : IsOut past
-    pub goes : (before behind : Run) → between ≡ before ++ behind → IsOut (since_step past first before) → ⊥
-    pub ends : given (since_step past first between ++ (n, last) ∷ []) ≡ given (since_step past first between) ++ answer ∷ []
-    -- it had given i answers before, at the first step of the call and at its last
-    pub before : length (given past) ≡ i
-    pub still : length (given (since_step past first between)) ≡ i
-
   -- A step adds no answer, or it adds one, and then it ends a call
   abbrev pub AddsAnswer : Run → Entry → Type 0
   AddsAnswer past e = let now = past ++ (n, e) ∷ [] in (given now ≡ given past) ⊎ ((answer : A) × (given now ≡ given past ++ answer ∷ []) × IsOut now × (IsOut past → ⊥))
@@ -68,19 +49,19 @@ module _ {A : Type 0} (n : ℕ) (IsOut : Run → Type 0) (given : Run → List A
       past : Run
       first : Entry
       between : Run
-      splits : now ≡ since_step past first between
+      splits : now ≡ since_step n past first between
       starts : IsOut past
-      goes : (before behind : Run) → between ≡ before ++ behind → IsOut (since_step past first before) → ⊥
+      goes : (before behind : Run) → between ≡ before ++ behind → IsOut (since_step n past first before) → ⊥
       same : given past ≡ given now
 
     record Accounted (now : Run) : Type 0 where
       under : IsOut now ⊎ UnderWay now
-      each : (i : ℕ) (answer : A) → get_elem? (given now) i ≡ some answer → IsAnsweredCall now i answer
+      each : (i : ℕ) (answer : A) → get_elem? (given now) i ≡ some answer → IsAnsweredCall n IsOut given now i answer
 
     -- a call goes on
     goes_on : (now : Run) (a : ℕ × Entry) (u : UnderWay now) → (IsOut (now ++ a ∷ []) → ⊥) → given (now ++ a ∷ []) ≡ given now → UnderWay (now ++ a ∷ [])
     goes_on now a u not_out same =
-        let whole : now ++ a ∷ [] ≡ since_step u.past u.first (u.between ++ a ∷ []) = ap (λ (run : Run). run ++ a ∷ []) u.splits ∙ append_assoc u.past ((n, u.first) ∷ u.between) (a ∷ []) in
+        let whole : now ++ a ∷ [] ≡ since_step n u.past u.first (u.between ++ a ∷ []) = ap (λ (run : Run). run ++ a ∷ []) u.splits ∙ append_assoc u.past ((n, u.first) ∷ u.between) (a ∷ []) in
         record {
           past = u.past;
           first = u.first;
@@ -88,21 +69,21 @@ module _ {A : Type 0} (n : ℕ) (IsOut : Run → Type 0) (given : Run → List A
           splits = whole;
           starts = u.starts;
           goes = λ before behind e is. ⊎_elim
-              (λ (s : before ≡ u.between ++ a ∷ []). not_out (subst IsOut (sym whole) (subst (λ (m : Run). IsOut (since_step u.past u.first m)) s is)))
+              (λ (s : before ≡ u.between ++ a ∷ []). not_out (subst IsOut (sym whole) (subst (λ (m : Run). IsOut (since_step n u.past u.first m)) s is)))
               (λ (s : (less : Run) × (u.between ≡ before ++ less)). u.goes before s.0 s.1 is)
               (cut_last u.between before behind a e);
           same = u.same ∙ sym same;
         }
 
     -- an answer stays one
-    longer : (now : Run) (a : ℕ × Entry) (i : ℕ) (answer : A) → IsAnsweredCall now i answer → IsAnsweredCall (now ++ a ∷ []) i answer
+    longer : (now : Run) (a : ℕ × Entry) (i : ℕ) (answer : A) → IsAnsweredCall n IsOut given now i answer → IsAnsweredCall n IsOut given (now ++ a ∷ []) i answer
     longer now a i answer h = record {
       past = h.past;
       first = h.first;
       between = h.between;
       last = h.last;
       rest = h.rest ++ a ∷ [];
-      splits = ap (λ (run : Run). run ++ a ∷ []) h.splits ∙ append_assoc (since_step h.past h.first h.between) ((n, h.last) ∷ h.rest) (a ∷ []);
+      splits = ap (λ (run : Run). run ++ a ∷ []) h.splits ∙ append_assoc (since_step n h.past h.first h.between) ((n, h.last) ∷ h.rest) (a ∷ []);
       starts = h.starts;
       goes = h.goes;
       ends = h.ends;
@@ -111,7 +92,7 @@ module _ {A : Type 0} (n : ℕ) (IsOut : Run → Type 0) (given : Run → List A
     }
 
     -- where the step adds no answer, those before stay
-    each_stays : (now : Run) (a : ℕ × Entry) → Accounted now → given (now ++ a ∷ []) ≡ given now → (i : ℕ) (answer : A) → get_elem? (given (now ++ a ∷ [])) i ≡ some answer → IsAnsweredCall (now ++ a ∷ []) i answer
+    each_stays : (now : Run) (a : ℕ × Entry) → Accounted now → given (now ++ a ∷ []) ≡ given now → (i : ℕ) (answer : A) → get_elem? (given (now ++ a ∷ [])) i ≡ some answer → IsAnsweredCall n IsOut given (now ++ a ∷ []) i answer
     each_stays now a h same i answer at = longer now a i answer (h.each i answer (ap (λ (ls : List A). get_elem? ls i) (sym same) ∙ at))
 
     by_other : (past : Run) (m : ℕ) (e : Entry) → m ≢ n → Accounted past → Accounted (past ++ (m, e) ∷ [])
@@ -140,7 +121,7 @@ module _ {A : Type 0} (n : ℕ) (IsOut : Run → Type 0) (given : Run → List A
               between = [];
               splits = refl;
               starts = was;
-              goes = λ before behind z is. not_out (subst (λ (m : Run). IsOut (since_step past e m)) (none_before before behind z) is);
+              goes = λ before behind z is. not_out (subst (λ (m : Run). IsOut (since_step n past e m)) (none_before before behind z) is);
               same = sym same;
             })
             (λ (u : UnderWay past). goes_on past (n, e) u not_out same) h.under))
@@ -155,14 +136,14 @@ module _ {A : Type 0} (n : ℕ) (IsOut : Run → Type 0) (given : Run → List A
         each = λ i other at. ⊎_elim
             (λ (old : get_elem? (given past) i ≡ some other). longer past (n, e) i other (h.each i other old))
             (λ (new : (i ≡ length (given past)) × (answer ≡ other)).
-            subst (λ (p : ℕ × A). IsAnsweredCall now p.0 p.1) (λ t. (sym new.0 t, new.1 t)) answered)
+            subst (λ (p : ℕ × A). IsAnsweredCall n IsOut given now p.0 p.1) (λ t. (sym new.0 t, new.1 t)) answered)
             (at_end (given past) answer other i (ap (λ (ls : List A). get_elem? ls i) (sym more) ∙ at));
       }
         where
           u : UnderWay past
           u = ⊎_elim (λ (out : IsOut past). absurd (going out)) (λ (w : UnderWay past). w) h.under
 
-          answered : IsAnsweredCall now (length (given past)) answer
+          answered : IsAnsweredCall n IsOut given now (length (given past)) answer
           answered = record {
             past = u.past;
             first = u.first;
@@ -186,5 +167,5 @@ module _ {A : Type 0} (n : ℕ) (IsOut : Run → Type 0) (given : Run → List A
         (record { under = inl out_first; each = λ i answer at. absurd (let z : get_elem? {A = A} [] i ≡ some answer = ap (λ (ls : List A). get_elem? ls i) (sym none_first) ∙ at in cc) }) run
 
     -- the answer with the number i
-    pub answered_call : (run : Run) (i : ℕ) (answer : A) → get_elem? (given run) i ≡ some answer → IsAnsweredCall run i answer
+    pub answered_call : (run : Run) (i : ℕ) (answer : A) → get_elem? (given run) i ≡ some answer → IsAnsweredCall n IsOut given run i answer
     answered_call run i answer at = (accounted run).each i answer at

@@ -7,7 +7,7 @@ use lib.ListN.{get_elem?}
 use Rattle.ck_run.specs.declared.account.Entry.{Entry}
 use Rattle.ck_run.specs.Run.{Run}
 use Rattle.ck_run.proofs.Lists.{first_is, rest_is, begins, inside, some_at}
-use Rattle.ck_events.proofs.Calls.{IsAnsweredCall, since_step}
+use Rattle.ck_events.specs.Answered.{since_step, IsAnsweredCall, ArePlaces}
 
 le_or : (a b : ℕ) → (a ≤ b) ⊎ (b ≤ a)
 le_or zero b = inl (omega arith)
@@ -33,15 +33,7 @@ module _ {A : Type 0} (n : ℕ) (IsOut : Run → Type 0) (given : Run → List A
   pub record IsPlaced (run : Run) (i : ℕ) (answer : A) (p : ℕ) : Type 0 where
     pub call : IsAnsweredCall n IsOut given run i answer
     pub least : many call.past ≤ p
-    pub most : p ≤ many (since_step n IsOut given call.past call.first call.between)
-
-  -- The answers have these places: what P says of each holds, they don't fall, and at each moment, those of the answers given before are at most the
-  -- number of updates that have taken place by then, and those of the calls that begin later at least that
-  pub record ArePlaces (P : ℕ → A → ℕ → Type 0) (run : Run) (places : ℕ → ℕ) : Type 0 where
-    pub moments : (i : ℕ) (answer : A) → get_elem? (given run) i ≡ some answer → P i answer (places i)
-    pub rise : (i j : ℕ) → i ≤ j → j < length (given run) → places i ≤ places j
-    pub before : (past rest : Run) (i : ℕ) → run ≡ past ++ rest → i < length (given past) → places i ≤ many past
-    pub since : (past rest : Run) (i : ℕ) → run ≡ past ++ rest → IsOut past → length (given past) ≤ i → i < length (given run) → many past ≤ places i
+    pub most : p ≤ many (since_step n call.past call.first call.between)
 
   module _ (mono : (a b rest : Run) → True (a ++ (b ++ rest)) → many a ≤ many (a ++ b)) (rise : (a b : Run) → length (given a) ≤ length (given (a ++ b))) where
     -- the moment of fewer answers comes first
@@ -55,7 +47,7 @@ module _ {A : Type 0} (n : ℕ) (IsOut : Run → Type 0) (given : Run → List A
         c = h.call
 
         abbrev end : Run
-        end = since_step n IsOut given c.past c.first c.between
+        end = since_step n c.past c.first c.between
 
         abbrev ahead : Run
         ahead = (n, c.first) ∷ (c.between ++ (n, c.last) ∷ c.rest)
@@ -89,7 +81,7 @@ module _ {A : Type 0} (n : ℕ) (IsOut : Run → Type 0) (given : Run → List A
             (λ (s : (more : Run) × (past ≡ c.past ++ more)). by s.0 s.1)
             (either_begins past rest c.past ahead (sym e ∙ to_first))
           where
-            not_within : (b behind : Run) → c.between ≡ b ++ behind → past ≡ since_step n IsOut given c.past c.first b → ⊥
+            not_within : (b behind : Run) → c.between ≡ b ++ behind → past ≡ since_step n c.past c.first b → ⊥
             not_within b behind z same = c.goes b behind z (subst IsOut same is_out)
 
             by_more : (z : Run) → past ≡ end ++ z → ⊥
@@ -134,7 +126,7 @@ module _ {A : Type 0} (n : ℕ) (IsOut : Run → Type 0) (given : Run → List A
                   (λ (other : i ≢ m). subst (Has i) (sym (ap (λ (b : Bool). cond b p.0 (h.0 i)) (ne_eqb i m other))) (h.1 i (omega arith))),
             )
 
-        pub have_places : (places : ℕ → ℕ) × ArePlaces P run places
+        pub have_places : (places : ℕ → ℕ) × ArePlaces n IsOut given many P run places
         have_places =
             let h = all_places (length (given run)) (omega arith) in
             let at : (i : ℕ) → i < length (given run) → (answer : A) × IsPlaced run i answer (h.0 i) = λ i low. let g = h.1 i low in (g.0, placed i g.0 (h.0 i) g.2) in (

@@ -118,9 +118,9 @@ module _ (told : TrueSignals table) (laws : (o : Origin (Signals HtClient)) → 
     right : AreRight table o (known o) told (linearized with_signals o) (mono with_signals o (laws o)) (has_logged o (laws o)) c.run c.is_run num.0 (answer_after nat_cmp most (updates (updates_in with_signals o c.run))) (place num.0)
     right = let h = all_have num.0 in record {
       gave = λ i x at. sym (h.gave i x.0 x.1 at);
-      rise = h.rise;
-      before = h.before;
-      since = λ past rest i e is_out. h.since past rest i e (no_look_is (look_state_of (local_in with_signals o past (suc num.0))) (ap (λ (x : LocalState). is_no_look (look_state_of x)) (sym (local_is o past (suc num.0))) ∙ is_out));
+      rise = h.are.rise;
+      before = h.are.before;
+      since = λ past rest i e is_out. h.are.since past rest i e (no_look_is (look_state_of (local_in with_signals o past (suc num.0))) (ap (λ (x : LocalState). is_no_look (look_state_of x)) (sym (local_is o past (suc num.0))) ∙ is_out));
     }
 
     placed_p : ArePlacedInLog (knows with_signals o w).log (pass_events o p) (places (rec_of p))
@@ -144,7 +144,7 @@ module _ (told : TrueSignals table) (laws : (o : Origin (Signals HtClient)) → 
   are_bounded : AreBoundedFrom places 0 (hand_events o w)
   are_bounded = subst (λ (n : ℕ). AreBoundedFrom places 0 (writer_events table o (known o) (answers_after k o.words n []) (did w))) (sym first)
       (subst (λ (es : List Entry). AreBoundedFrom places 0 (writer_events table o (known o) (answers_after k o.words 0 []) es)) mine
-      (bounded table o (known o) (log_grows o) told (linearized with_signals o) (few_given o) (log_is_whole o (all_settled o)) c.run c.is_run place (λ r. (all_have r).before) refl))
+      (bounded table o (known o) (log_grows o) told (linearized with_signals o) (few_given o) (log_is_whole o (all_settled o)) c.run c.is_run place (λ r. (all_have r).are.before) refl))
 
   pub is_closed : IsClosedTable w ps words
   is_closed = record {

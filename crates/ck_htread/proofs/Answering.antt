@@ -12,7 +12,8 @@ use Rattle.ck_run.specs.Machine.{state_after}
 use Rattle.ck_run.proofs.Runs.{account_here, account_else}
 use Rattle.ck_run.proofs.Law.{state-append}
 use Rattle.ck_epoch.specs.State.{Origin}
-use Rattle.ck_events.proofs.Calls.{IsAnsweredCall, AddsAnswer, answered_call}
+use Rattle.ck_events.specs.Answered.{IsAnsweredCall}
+use Rattle.ck_events.proofs.Calls.{AddsAnswer, answered_call}
 use Rattle.ck_htlaw.specs.Calls.{key_of, is_single_load}
 use Rattle.ck_htlaw.specs.Look.{LookState, no_look, checking_value, checking_absence}
 use Rattle.ck_htlaw.specs.Table.{Layout, ReaderState, LocalState, writer, reader, is_table_word, is_section, after_own, after_other, after_look_step}
@@ -22,7 +23,7 @@ use Rattle.ck_htlaw.specs.Host.{Host, lies}
 use Rattle.ck_htlaw.specs.Law.{local_in, look_state_of, until}
 use Rattle.ck_htlaw.proofs.Reclaim.{is_out}
 use Rattle.ck_htlaw.proofs.Tokens.{local_after_all}
-use Rattle.ck_htread.specs.Answered.{looks_in, IsAnsweredLook}
+use Rattle.ck_htread.specs.Answered.{looks_in, IsOut, IsAnsweredLook}
 
 either : (b : Bool) (y z : ReaderState) → cond b (reader y) (reader z) ≡ reader (cond b y z)
 either true y z = refl
@@ -76,10 +77,7 @@ module _ {D : Type 0} (host : Host D) (origin : Origin D) (r : ℕ) where
   abbrev local : Run → LocalState
   local run = local_in host origin run (suc r)
 
-  abbrev pub IsOut : Run → Type 0
-  IsOut run = look_state_of (local run) ≡ no_look
-
-  abbrev pub looks : Run → List (ℕ × Option ℕ)
+  abbrev looks : Run → List (ℕ × Option ℕ)
   looks run = looks_in host origin run r
 
   reader_of : (run : Run) → (y : ReaderState) × (local run ≡ reader y)
@@ -112,7 +110,7 @@ module _ {D : Type 0} (host : Host D) (origin : Origin D) (r : ℕ) where
   looks_are : (past : Run) (e : Entry) → looks (past ++ (suc r, e) ∷ []) ≡ looks past ++ cond (is_look e) (look_ends (look_state_of (local past)) e.step) []
   looks_are past e = looks_here past e ∙ (ap (λ (h : LocalState). looks past ++ looks_next l h e) (reader_of past).1 ∙ ap (λ (h : LocalState). looks past ++ cond (is_look e) (look_ends (look_state_of h) e.step) []) (sym (reader_of past).1))
 
-  by_itself : (past : Run) (e : Entry) → AddsAnswer (suc r) IsOut looks past e
+  by_itself : (past : Run) (e : Entry) → AddsAnswer (suc r) (IsOut host origin r) looks past e
   by_itself past e = by (is_look e) refl
     where
       state : LookState
@@ -121,7 +119,7 @@ module _ {D : Type 0} (host : Host D) (origin : Origin D) (r : ℕ) where
       none : cond (is_look e) (look_ends state e.step) [] ≡ [] → looks (past ++ (suc r, e) ∷ []) ≡ looks past
       none is = looks_are past e ∙ (ap (λ (ls : List (ℕ × Option ℕ)). looks past ++ ls) is ∙ append-nil (looks past))
 
-      out_now : is_look e ≡ true → (k : ℕ) (x : Option ℕ) → look_ends state e.step ≡ (k, x) ∷ [] → IsOut (past ++ (suc r, e) ∷ [])
+      out_now : is_look e ≡ true → (k : ℕ) (x : Option ℕ) → look_ends state e.step ≡ (k, x) ∷ [] → IsOut host origin r (past ++ (suc r, e) ∷ [])
       out_now look k x ends =
           let y = (reader_of past).0 in let p = parts (is_table_word l e.step) (is_single_load e.opens) look in
           let ends_y : look_ends y.look_state e.step ≡ (k, x) ∷ [] = ap (λ (h : LocalState). look_ends (look_state_of h) e.step) (sym (reader_of past).1) ∙ ends in
@@ -130,17 +128,12 @@ module _ {D : Type 0} (host : Host D) (origin : Origin D) (r : ℕ) where
           ∙ ap (λ (b : Bool). reader (cond b y (after_look_step l y (key_of e.opens) y.look_state e.step))) p.1)))
           ∙ ends_out l y (key_of e.opens) y.look_state e.step k x ends_y
 
-      by : (b : Bool) → is_look e ≡ b → AddsAnswer (suc r) IsOut looks past e
+      by : (b : Bool) → is_look e ≡ b → AddsAnswer (suc r) (IsOut host origin r) looks past e
       by false is = inl (none (ap (λ (b : Bool). cond b (look_ends state e.step) []) is))
       by true is = ⊎_elim
           (λ (empty : look_ends state e.step ≡ []). inl (none (ap (λ (b : Bool). cond b (look_ends state e.step) []) is ∙ empty)))
           (λ one. inr ((one.0, one.1), looks_are past e ∙ ap (λ (ls : List (ℕ × Option ℕ)). looks past ++ ls) (ap (λ (b : Bool). cond b (look_ends state e.step) []) is ∙ one.2), out_now is one.0 one.1 one.2, one.3))
           (ends_or_not state e.step)
-
-  -- the answer with the number i
-  pub answered_by : (run : Run) (i : ℕ) (answer : ℕ × Option ℕ) → get_elem? (looks_in host origin run r) i ≡ some answer → IsAnsweredCall (suc r) IsOut looks run i answer
-  answered_by run i answer at = answered_call (suc r) IsOut looks (λ past. is_out (look_state_of (local past))) refl refl
-      (λ past n e other. (λ z. ap look_state_of (local_else past n e other) ∙ z, looks_else past n e other)) by_itself run i answer at
 
   -- what the last step of a look adds
   last_adds : (past : Run) (e : Entry) (answer : ℕ × Option ℕ) → looks (past ++ (suc r, e) ∷ []) ≡ looks past ++ answer ∷ [] → (is_look e ≡ true) × (look_ends (look_state_of (local past)) e.step ≡ answer ∷ [])
@@ -153,40 +146,14 @@ module _ {D : Type 0} (host : Host D) (origin : Origin D) (r : ℕ) where
       by true is = (is, sym (ap (λ (b : Bool). cond b (look_ends (look_state_of (local past)) e.step) []) is) ∙ same)
       by false is = absurd (let z : [] ≡ answer ∷ [] = sym (ap (λ (b : Bool). cond b (look_ends (look_state_of (local past)) e.step) []) is) ∙ same in cc)
 
-  pub answered_look : (run : Run) (i k : ℕ) (x : Option ℕ) → IsAnsweredCall (suc r) IsOut looks run i (k, x) → IsAnsweredLook host origin run r i k x
-  answered_look run i k x h =
+  -- the answer with the number i
+  pub answered_look : (run : Run) (i k : ℕ) (x : Option ℕ) → get_elem? (looks_in host origin run r) i ≡ some (k, x) → IsAnsweredLook host origin run r i k x
+  answered_look run i k x at =
+      let h : IsAnsweredCall (suc r) (IsOut host origin r) looks run i (k, x) = answered_call (suc r) (IsOut host origin r) looks (λ past. is_out (look_state_of (local past))) refl refl
+      (λ past n e other. (λ z. ap look_state_of (local_else past n e other) ∙ z, looks_else past n e other)) by_itself run i (k, x) at in
       let last = last_adds (until h.past r h.first h.between) h.last (k, x) h.ends in
       record {
-        past = h.past;
-        first = h.first;
-        between = h.between;
-        last = h.last;
-        rest = h.rest;
-        splits = h.splits;
+        call = h;
         look = record { starts = h.starts; goes = h.goes; last = ap (λ (b : Bool). is_table_word l h.last.step && b) (sym (not_lone (is_single_load h.last.opens))) ∙ last.0 };
         answers = last.1;
-        before = h.before;
-        still = h.still;
       }
-
-  pub call_ends : (run : Run) (i k : ℕ) (x : Option ℕ) (h : IsAnsweredLook host origin run r i k x)
-      → let end = until h.past r h.first h.between in looks (end ++ (suc r, h.last) ∷ []) ≡ looks end ++ (k, x) ∷ []
-  call_ends run i k x h =
-      let end = until h.past r h.first h.between in
-      let look : is_look h.last ≡ true = ap (λ (b : Bool). is_table_word l h.last.step && b) (not_lone (is_single_load h.last.opens)) ∙ h.look.last in
-      looks_are end h.last ∙ ap (λ (ls : List (ℕ × Option ℕ)). looks end ++ ls) (ap (λ (b : Bool). cond b (look_ends (look_state_of (local end)) h.last.step) []) look ∙ h.answers)
-
-  abbrev pub call_of : (run : Run) (i k : ℕ) (x : Option ℕ) → IsAnsweredLook host origin run r i k x → IsAnsweredCall (suc r) IsOut looks run i (k, x)
-  call_of run i k x h = record {
-    past = h.past;
-    first = h.first;
-    between = h.between;
-    last = h.last;
-    rest = h.rest;
-    splits = h.splits;
-    starts = h.look.starts;
-    goes = h.look.goes;
-    ends = call_ends run i k x h;
-    before = h.before;
-    still = h.still;
-  }

@@ -15,6 +15,7 @@ use Rattle.ck_history.specs.declared.log.LogEntry.{LogEntry}
 use Rattle.ck_history.specs.declared.update.Update.{Update}
 use Rattle.ck_history.specs.Map.{find, after, after_from}
 use Rattle.ck_epoch.specs.State.{Origin}
+use Rattle.ck_events.specs.Answered.{IsAnsweredCall}
 use Rattle.ck_events.proofs.Places.{IsPlaced, have_places}
 use Rattle.ck_htlaw.specs.Actions.{most}
 use Rattle.ck_htlaw.specs.Table.{Layout}
@@ -22,8 +23,8 @@ use Rattle.ck_htlaw.specs.Linearized.{updates}
 use Rattle.ck_htlaw.specs.Client.{Answers, answers_next, answers_after, looks_next}
 use Rattle.ck_htlaw.specs.Host.{Host, lies}
 use Rattle.ck_htlaw.specs.Law.{TableLaw, IsTableRun, updates_in, linearized, until}
-use Rattle.ck_htread.specs.Answered.{looks_in, IsAnsweredLook, HasPlace, PlacesLaw}
-use Rattle.ck_htread.proofs.Answering.{IsOut, looks, answered_by, answered_look, call_of}
+use Rattle.ck_htread.specs.Answered.{looks_in, IsOut, HasPlace, PlacesLaw}
+use Rattle.ck_htread.proofs.Answering.{answered_look}
 
 looks_grow : (l : Layout) (a : Answers) (es : List Entry) → length a.looks ≤ length (state_after (answers_next l) a es).looks
 looks_grow l a [] = omega arith
@@ -44,8 +45,11 @@ module _ {D : Type 0} (host : Host D) (origin : Origin D) (law : TableLaw host o
   mono a b rest t = let g = law.grows a b rest t in let n = ap length g.1 ∙ length-append (updates_in host origin a) g.0 in omega arith
 
   module _ (r : ℕ) where
-    rise : (a b : Run) → length (looks host origin r a) ≤ length (looks host origin r (a ++ b))
-    rise a b = subst (λ (n : ℕ). length (looks host origin r a) ≤ n)
+    abbrev looks : Run → List (ℕ × Option ℕ)
+    looks run = looks_in host origin run r
+
+    rise : (a b : Run) → length (looks a) ≤ length (looks (a ++ b))
+    rise a b = subst (λ (n : ℕ). length (looks a) ≤ n)
         (sym (ap (λ (es : List Entry). length (answers_after l origin.words (suc r) es).looks) (account-append (suc r) a b)
         ∙ ap (λ (x : Answers). length x.looks) (state-append (answers_next l) (answers_after l origin.words (suc r) []) (account (suc r) a) (account (suc r) b))))
         (looks_grow l (answers_after l origin.words (suc r) (account (suc r) a)) (account (suc r) b))
@@ -56,8 +60,8 @@ module _ {D : Type 0} (host : Host D) (origin : Origin D) (law : TableLaw host o
       Has i answer p = HasPlace host origin run r i answer.0 answer.1 p
 
       module _ (i : ℕ) (answer : ℕ × Option ℕ) (p : ℕ) (h : Has i answer p) where
-        abbrev a : IsAnsweredLook host origin run r i answer.0 answer.1
-        a = h.answered
+        abbrev a : IsAnsweredCall (suc r) (IsOut host origin r) looks run i answer
+        a = h.answered.call
 
         abbrev now : Run
         now = until a.past r a.first h.moment.before
@@ -74,9 +78,9 @@ module _ {D : Type 0} (host : Host D) (origin : Origin D) (law : TableLaw host o
         whole : run ≡ now ++ after_now
         whole = a.splits ∙ (ap (λ (b : Run). b ++ (suc r, a.last) ∷ a.rest) end_is ∙ append_assoc now h.moment.behind ((suc r, a.last) ∷ a.rest))
 
-        placed : IsPlaced (suc r) (IsOut host origin r) (looks host origin r) many True run i answer p
+        placed : IsPlaced (suc r) (IsOut host origin r) looks many True run i answer p
         placed = record {
-          call = call_of host origin r run i answer.0 answer.1 a;
+          call = a;
           least = subst (λ (n : ℕ). many a.past ≤ n) h.is h.moment.least;
           most = subst (λ (n : ℕ). n ≤ many end) h.is (subst (λ (b : Run). many now ≤ many b) (sym end_is) (mono now h.moment.behind ((suc r, a.last) ∷ a.rest) (subst True whole t)));
         }
@@ -97,13 +101,13 @@ module _ {D : Type 0} (host : Host D) (origin : Origin D) (law : TableLaw host o
       -- each answer has a place
       a_place : (i : ℕ) (answer : ℕ × Option ℕ) → get_elem? (looks_in host origin run r) i ≡ some answer → (p : ℕ) × Has i answer p
       a_place i answer at =
-          let a = answered_look host origin r run i answer.0 answer.1 (answered_by host origin r run i answer at) in
-          let w = law.answers a.past a.between a.rest r a.first a.last answer.0 answer.1 (subst True a.splits t) a.look a.answers in
-          (linearized host origin (until a.past r a.first w.before), record { answered = a; moment = w; is = refl })
+          let a = answered_look host origin r run i answer.0 answer.1 at in let c = a.call in
+          let w = law.answers c.past c.between c.rest r c.first c.last answer.0 answer.1 (subst True c.splits t) a.look a.answers in
+          (linearized host origin (until c.past r c.first w.before), record { answered = a; moment = w; is = refl })
 
   pub places_law : PlacesLaw host origin
   places_law run r t =
-      let h = have_places (suc r) (IsOut host origin r) (looks host origin r) many True mono (rise r) run t (Has r run t) (placed r run t) (a_place r run t) in (
+      let h = have_places (suc r) (IsOut host origin r) (looks r) many True mono (rise r) run t (Has r run t) (placed r run t) (a_place r run t) in (
         h.0,
-        record { moments = λ i k x at. h.1.moments i (k, x) at; gave = λ i k x at. gave r run t i (k, x) (h.0 i) (h.1.moments i (k, x) at); rise = h.1.rise; before = h.1.before; since = h.1.since },
+        record { are = h.1; gave = λ i k x at. gave r run t i (k, x) (h.0 i) (h.1.moments i (k, x) at) },
       )
