@@ -21,7 +21,7 @@ use Rattle.ck_slots.specs.Standing.{Copies, single, StandFor}
 use Rattle.ck_events.specs.Events.{reader_events, writer_events}
 use Rattle.ck_events.specs.Places.{places_from}
 use Rattle.ck_events.proofs.Placed.{AreRight, placed}
-use Rattle.ck_events.proofs.Bounded.{is_log, bounded}
+use Rattle.ck_events.proofs.Bounded.{bounded}
 use Rattle.ck_htlaw.specs.declared.client.HtClient.{HtClient}
 use Rattle.ck_htlaw.specs.Actions.{most}
 use Rattle.ck_htlaw.specs.Client.{Answers, table, answers_after, local_after, orders_of, first_reader}
@@ -39,10 +39,10 @@ use Rattle.ck_htread.proofs.Placing.{mono}
 use Rattle.ck_htread.proofs.Telling.{record_of}
 use Rattle.ck_ht.specs.Closed.{TableStandsFor, ArePlacedInLog, IsClosedTable}
 use Rattle.ck_ht.specs.Ends.{IsIdle, IsPassReady}
-use Rattle.ck_ht.specs.Events.{is_no_look, IsLogOf, known, pass_events, hand_events}
+use Rattle.ck_ht.specs.Events.{is_no_look, known, pass_events, hand_events}
 use Rattle.ck_ht.specs.Settled.{SettledLaw}
 use Rattle.ck_ht.proofs.Counts.{local_is, few_given, log_is_whole, has_logged}
-use Rattle.ck_ht.proofs.EventSteps.{no_look_is, updates_of, replies_of, log_grows, adds_one}
+use Rattle.ck_ht.proofs.EventSteps.{no_look_is, log_grows, adds_one, is_log_of}
 
 -- a writer's account is that of the first token
 pub is_first : (l : Layout) (words : List ℕ) (n : ℕ) (es : List Entry) (p : WriterState) → local_after l words n es ≡ writer p → n ≡ 0
@@ -137,10 +137,6 @@ module _ (told : TrueSignals table) (laws : (o : Origin (Signals HtClient)) → 
         let local_p : local_in with_signals o c.run (suc num.0) ≡ (knows with_signals o p).local = sym (local_after_all k (answers_after k o.words (suc num.0) []) (account (suc num.0) c.run)) ∙ ap (λ (a : Answers). a.local) knows_p in
         subst (λ (z : LocalState × List (LogEntry ℕ)). retries_of z.0 ≤ 2 * length z.1) (λ i. (local_p i, (answers i).log)) ((laws o).bounded c.run [] num.0 free.0 whole free_run.1 free.2)
 
-  -- the updates of the writer's events
-  is_log_of : IsLogOf (hand_events o w) (knows with_signals o w).log
-  is_log_of = let h = is_log table o (known o) (log_grows o) w refl in (h.0 ∙ updates_of (knows with_signals o w).log, h.1 ∙ replies_of (knows with_signals o w).log)
-
   are_bounded : AreBoundedFrom places 0 (hand_events o w)
   are_bounded = subst (λ (n : ℕ). AreBoundedFrom places 0 (writer_events table o (known o) (answers_after k o.words n []) (did w))) (sym first)
       (subst (λ (es : List Entry). AreBoundedFrom places 0 (writer_events table o (known o) (answers_after k o.words 0 []) es)) mine
@@ -158,7 +154,7 @@ module _ (told : TrueSignals table) (laws : (o : Origin (Signals HtClient)) → 
     log = log;
     stand = words_stand o c.run words (knows with_signals o w).log ((laws o).stand c.run [] whole) free_run c.leaves log;
     replies = subst AreReplies log ((laws o).replies c.run [] whole);
-    logged = is_log_of;
+    logged = is_log_of o w;
     place = place;
     have_places = all_have;
     places = places;

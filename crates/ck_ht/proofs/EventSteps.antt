@@ -16,6 +16,7 @@ use Rattle.ck_history.specs.declared.log.LogEntry.{LogEntry}
 use Rattle.ck_history.specs.declared.update.Update.{Update}
 use Rattle.ck_history.specs.declared.update.Reply.{Reply}
 use Rattle.ck_events.specs.Events.{answer_events, update_events}
+use Rattle.ck_events.proofs.Bounded.{is_log}
 use Rattle.ck_events.proofs.Placed.{AddsOne}
 use Rattle.ck_events.proofs.Steps.{AreSilent, AreQuiet, OpensNone, further_quiet}
 use Rattle.ck_events.proofs.Steps as steps
@@ -34,7 +35,7 @@ use Rattle.ck_htread.specs.Scan.{scan_loads}
 use Rattle.ck_htread.proofs.Answering.{answers_or_not}
 use Rattle.ck_htwrite.specs.Writes.{opened}
 use Rattle.ck_ht.specs.Ends.{IsIdle}
-use Rattle.ck_ht.specs.Events.{is_no_look, is_idle_stage, is_idle_writer, replied, known, pass_events, hand_events}
+use Rattle.ck_ht.specs.Events.{IsLogOf, is_no_look, is_idle_stage, is_idle_writer, replied, known, pass_events, hand_events}
 
 -- a reader is between two looks exactly where it has no look
 pub no_look_is : (g : LookState) → is_no_look g ≡ true → g ≡ no_look
@@ -51,11 +52,11 @@ idle_is (writer p) is = (p, refl, stage_is p.stage is)
 idle_is (reader y) is = absurd cc
 
 -- the updates of a log, and their replies
-pub updates_of : (log : List (LogEntry ℕ)) → map (λ (x : Update ℕ × Reply). x.0) (map replied log) ≡ map (λ (e : LogEntry ℕ). e.update) log
+updates_of : (log : List (LogEntry ℕ)) → map (λ (x : Update ℕ × Reply). x.0) (map replied log) ≡ map (λ (e : LogEntry ℕ). e.update) log
 updates_of [] = refl
 updates_of (e ∷ es) = ap (λ (us : List (Update ℕ)). e.update ∷ us) (updates_of es)
 
-pub replies_of : (log : List (LogEntry ℕ)) → map (λ (x : Update ℕ × Reply). x.1) (map replied log) ≡ map (λ (e : LogEntry ℕ). e.reply) log
+replies_of : (log : List (LogEntry ℕ)) → map (λ (x : Update ℕ × Reply). x.1) (map replied log) ≡ map (λ (e : LogEntry ℕ). e.reply) log
 replies_of [] = refl
 replies_of (e ∷ es) = ap (λ (rs : List Reply). e.reply ∷ rs) (replies_of es)
 
@@ -85,6 +86,10 @@ module _ (o : Origin (Signals HtClient)) where
   pub updates_are_events : (t u : Token (Signals HtClient)) (es : List Entry) (new : List (LogEntry ℕ)) → u ≡ adding t es → AreQuiet es → (knows with_signals o u).log ≡ (knows with_signals o t).log ++ new
       → hand_events o u ≡ hand_events o t ++ update_events (map replied new)
   updates_are_events t u es new made quiet log = steps.updates_are_events table o (known o) log_grows t u es (map replied new) made quiet (ap (map replied) log ∙ map-append replied (knows with_signals o t).log new)
+
+  -- the updates among a writer's events are those of its log
+  pub is_log_of : (w : Token (Signals HtClient)) → IsLogOf (hand_events o w) (knows with_signals o w).log
+  is_log_of w = let h = is_log table o (known o) log_grows w refl in (h.0 ∙ updates_of (knows with_signals o w).log, h.1 ∙ replies_of (knows with_signals o w).log)
 
   -- the entries of a look
   further_silent : (ss : List Step) → AreSilent table o (map further ss)
