@@ -8,10 +8,11 @@ use Rattle.ck_epoch.specs.State.{Origin, Token}
 use Rattle.ck_epoch.specs.Ends.{Pass}
 use Rattle.ck_signal.specs.declared.signals.Signals.{Signals}
 use Rattle.ck_signal.specs.Words.{reached}
+use Rattle.ck_events.proofs.Steps.{AreSilent}
 use Rattle.ck_arraylaw.specs.declared.client.ArrayClient.{ArrayClient}
 use Rattle.ck_arraylaw.specs.Array.{reader}
 use Rattle.ck_arraylaw.specs.Calls.{all}
-use Rattle.ck_arraylaw.specs.Client.{answers_of}
+use Rattle.ck_arraylaw.specs.Client.{array, answers_of}
 use Rattle.ck_arraylaw.specs.Host.{base_word}
 use Rattle.ck_arraylaw.specs.Known.{knows}
 use Rattle.ck_arraylaw.specs.Layout.{region_at}
@@ -19,10 +20,10 @@ use Rattle.ck_arraylaw.specs.Reached.{with_signals}
 use Rattle.ck_array.specs.Ends.{IsPassReady}
 use Rattle.ck_array.specs.Events.{pass_events}
 use Rattle.ck_array.specs.Reads.{resting, member_loads, ReadsAll}
-use Rattle.ck_array.proofs.EventSteps.{AreSilent, answers_are_events}
+use Rattle.ck_array.proofs.EventSteps.{answers_are_events}
 
 module _ (o : Origin (Signals ArrayClient)) where
-  loads_silent : (word : ℕ) (members : List ℕ) → AreSilent o (member_loads word members)
+  loads_silent : (word : ℕ) (members : List ℕ) → AreSilent array o (member_loads word members)
   loads_silent word [] = tt
   loads_silent word (x ∷ xs) = ((λ wanted found opens step. cc), loads_silent (suc word) xs)
 

@@ -1,9 +1,9 @@
 -- How an array begins.
 use Rattle.std.proofs.Common.{◌≡◌, ℕ, suc, ◌+◌, ◌≤◌, List, [], ◌∷◌, length, refl, sym, ap, ◌∙◌, subst, arith}
 use Rattle.std.specs.Prelude.{All}
-use Rattle.std.proofs.lemmas.List.Elements.{All-nil, All-cons}
+use Rattle.std.proofs.lemmas.List.Elements.{All-nil}
 use Rattle.ck_run.specs.Ends.{fresh}
-use Rattle.ck_run.specs.Tokens.{Table, table}
+use Rattle.ck_run.specs.Tokens.{Table}
 use Rattle.ck_epoch.specs.declared.about.About.{About}
 use Rattle.ck_epoch.specs.Closing.{AreFreshPasses}
 use Rattle.ck_history.specs.Lists.{empty_lists}
@@ -11,6 +11,7 @@ use Rattle.ck_epoch.specs.declared.item.Item.{Item}
 use Rattle.ck_epoch.specs.declared.item.Retired.{Retired}
 use Rattle.ck_epoch.specs.State.{Token, state}
 use Rattle.ck_epoch.specs.Ends.{Pass, Writer}
+use Rattle.ck_events.proofs.Opening.{all_fresh}
 use Rattle.ck_arena.specs.Arena.{AreItems, IsKept, unreturned}
 use Rattle.ck_arraylaw.specs.Array.{writer}
 use Rattle.ck_arraylaw.specs.Known.{knows}
@@ -25,19 +26,11 @@ use Rattle.ck_array.specs.Ends.{edits_by, IsPassReady, IsWriterReady}
 use Rattle.ck_array.specs.Events.{pass_events}
 
 module _ (t : Table (About (Signals ArrayClient))) where
-  -- what is so of every new pass
-  each : (P : Pass (Signals ArrayClient) → Type 0) → ((n : ℕ) → P (record { token = fresh t (suc n); calls = 0; tally = 0 })) → (n : ℕ) (ps : List (Pass (Signals ArrayClient))) → AreFreshPasses t (suc n) ps → All P ps
-  each P new n [] h = All-nil P
-  each P new n (q ∷ ps) h = All-cons P q ps (subst P (sym h.0) (new n)) (each P new (suc n) ps (subst (λ (k : ℕ). AreFreshPasses t k ps) (let z : suc n + 1 ≡ suc (suc n) = omega arith in z) h.1))
-
-  pub all_made : (ps : List (Pass (Signals ArrayClient))) → AreFreshPasses t 1 ps → All (λ (p : Pass (Signals ArrayClient)). table p.token ≡ t) ps
-  all_made = each (λ (p : Pass (Signals ArrayClient)). table p.token ≡ t) (λ n. refl) 0
-
   pub all_ready : (ps : List (Pass (Signals ArrayClient))) → AreFreshPasses t 1 ps → All (λ (p : Pass (Signals ArrayClient)). IsPassReady t.origin p) ps
-  all_ready = each (λ (p : Pass (Signals ArrayClient)). IsPassReady t.origin p) (λ n. record { answers = []; local = refl; tally = refl; few = omega arith }) 0
+  all_ready = all_fresh t (λ (p : Pass (Signals ArrayClient)). IsPassReady t.origin p) (λ n. record { answers = []; local = refl; tally = refl; few = omega arith })
 
   pub none_done : (ps : List (Pass (Signals ArrayClient))) → AreFreshPasses t 1 ps → All (λ (p : Pass (Signals ArrayClient)). pass_events t.origin p.token ≡ []) ps
-  none_done = each (λ (p : Pass (Signals ArrayClient)). pass_events t.origin p.token ≡ []) (λ n. refl) 0
+  none_done = all_fresh t (λ (p : Pass (Signals ArrayClient)). pass_events t.origin p.token ≡ []) (λ n. refl)
 
 -- the writer at opening
 pub opened_ready : {F : Type 0} (t : Table (About (Signals ArrayClient))) (w : Writer (Signals ArrayClient) F) (s : ArrayState) → w.token ≡ fresh t 0 → w.waiting ≡ [] → w.tally ≡ 0 → 4096 ≤ w.room → s.lists ≡ empty_lists → s.region ≡ first_region → IsArenaOfArray s.arena

@@ -30,6 +30,7 @@ use Rattle.ck_epoch.specs.State.{Origin, Retirement, TokenState, queue, state}
 use Rattle.ck_epoch.specs.Calls.{dispatched_items, pending_after, SameItemsAndEpoch}
 use Rattle.ck_epoch.specs.Ends.{Writer}
 use Rattle.ck_signal.specs.declared.signals.Signals.{Signals}
+use Rattle.ck_events.proofs.Steps.{AreQuiet, AreQuiet-append}
 use Rattle.ck_arena.specs.Arena.{unreturned, AreAllInUse, AreItems, IsKept}
 use Rattle.ck_arena.specs.Found.{found_by}
 use Rattle.ck_arena.proofs.Backs.{none_waits}
@@ -47,7 +48,7 @@ use Rattle.ck_array.specs.Edited.{pending_by, IsWanting, IsEdited, IsMade, IsRef
 use Rattle.ck_array.specs.Ends.{edits_by, IsWriterReady}
 use Rattle.ck_array.specs.Events.{hand_events}
 use Rattle.ck_array.specs.Writes.{commit_entries, member_stores, opens_of, region_piece, IsReady}
-use Rattle.ck_array.proofs.EventSteps.{AreQuiet, AreQuiet-append, edits_are_events}
+use Rattle.ck_array.proofs.EventSteps.{edits_are_events}
 
 -- no region is longer than one of the most members
 log_most : (more l n : ℕ) → log_from more l n ≤ more + l

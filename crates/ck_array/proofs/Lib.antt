@@ -8,13 +8,10 @@ mod EventSteps
 mod SignalSteps
 mod AtOpening
 mod AllSteps
-mod Waits
-mod Polls
 mod Polled
 mod Edits
 mod Results
 mod Answering
 mod Placing
-mod PlacingEvents
-mod BoundingEvents
+mod Counts
 mod Closing

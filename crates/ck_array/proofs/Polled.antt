@@ -12,6 +12,7 @@ use Rattle.ck_epoch.specs.State.{Origin, Token, queue, state}
 use Rattle.ck_epoch.specs.Lists.{homes}
 use Rattle.ck_epoch.specs.Ends.{Writer}
 use Rattle.ck_signal.specs.declared.signals.Signals.{Signals}
+use Rattle.ck_events.proofs.Steps.{AreQuiet}
 use Rattle.ck_arena.specs.Arena.{retired_piece, unreturned, AreBacks, AreItems, IsKept}
 use Rattle.ck_arena.proofs.Backs.{after_dispatch}
 use Rattle.ck_arraylaw.specs.declared.client.ArrayClient.{ArrayClient}
@@ -26,7 +27,7 @@ use Rattle.ck_array.specs.Ends.{edits_by, IsWriterReady}
 use Rattle.ck_array.specs.Events.{hand_events}
 use Rattle.ck_array.specs.Writes.{idle, largest_log, region_piece, IsArenaOfArray}
 use Rattle.ck_array.proofs.Elsewhere.{AreElsewhere, hand_stays}
-use Rattle.ck_array.proofs.EventSteps.{AreQuiet, edits_are_events}
+use Rattle.ck_array.proofs.EventSteps.{edits_are_events}
 
 -- the piece that goes back with an item
 pub same_piece : (o : Origin (Signals ArrayClient)) (b : Back) (k : Retired) → b ≡ home_of k.item → piece b.at b.log ≡ retired_piece (place_in with_signals o) k

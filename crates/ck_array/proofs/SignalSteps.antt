@@ -1,8 +1,6 @@
 -- The signal calls of an array, and its sections: they leave its tokens where they stand, and are events or none.
-use Rattle.std.proofs.Common.{◌≡◌, ℕ, suc, ◌+◌, ◌<◌, ◌≤◌, ◌⊎◌, ⊎_elim, inl, inr, Bool, true, false, cond, nat_le, nat_lt, ◌==◌, ◌&&◌, eq-eqb, List, [], ◌∷◌, ◌++◌, length, append-nil, refl, sym, ap, ◌∙◌, subst, arith}
-use Rattle.std.specs.Prelude.{Result, Ok, Err, MatchResult, All}
-use Rattle.std.proofs.lemmas.Bool.Decides.{nat_tests}
-use Rattle.std.proofs.lemmas.List.Elements.{All-head, All-tail}
+use Rattle.std.proofs.Common.{◌≡◌, ℕ, suc, ◌+◌, ◌<◌, ◌≤◌, ◌⊎◌, ⊎_elim, inl, inr, false, List, [], ◌∷◌, ◌++◌, length, map, refl, sym, ap, ◌∙◌, subst, arith}
+use Rattle.std.specs.Prelude.{Result}
 use Rattle.ck_run.specs.declared.account.Step.{Step}
 use Rattle.ck_run.specs.declared.account.Entry.{Entry}
 use Rattle.ck_run.specs.Range.{word_of}
@@ -10,7 +8,7 @@ use Rattle.ck_run.specs.Tokens.{adding, did, number, origin}
 use Rattle.ck_history.specs.declared.edit.Edit.{Edit}
 use Rattle.ck_history.specs.declared.event.ReaderEvent.TheVariants.{Reached}
 use Rattle.ck_history.specs.declared.event.WriterEvent.TheVariants.{Told}
-use Rattle.ck_history.specs.Lists.{ListState, list_step, empty_lists, lists_after_from}
+use Rattle.ck_history.specs.Lists.{ListState, list_step, empty_lists}
 use Rattle.ck_epoch.specs.State.{Origin, base_of, state}
 use Rattle.ck_epoch.specs.Calls.{SameItemsAndEpoch, StepsBelow}
 use Rattle.ck_epoch.specs.Ends.{Pass, Writer}
@@ -18,10 +16,12 @@ use Rattle.ck_signal.specs.declared.signals.Signals.{Signals}
 use Rattle.ck_signal.specs.Words.{reaches, notes, marks, asks}
 use Rattle.ck_signal.specs.Signals.{readers}
 use Rattle.ck_signal.specs.Told.{applied_word_of, answered_word_of, writer_log, pass_answers}
+use Rattle.ck_events.proofs.Steps.{silent_below, Reaches, reaches_once}
+use Rattle.ck_events.proofs.Steps as steps
 use Rattle.ck_arena.specs.Arena.{AreItems, unreturned}
 use Rattle.ck_arraylaw.specs.declared.client.ArrayClient.{ArrayClient}
-use Rattle.ck_arraylaw.specs.Array.{between_calls, LocalState, is_array_word}
-use Rattle.ck_arraylaw.specs.Client.{array, local_after, logged, answers_of, replied_from}
+use Rattle.ck_arraylaw.specs.Array.{LocalState, is_array_word}
+use Rattle.ck_arraylaw.specs.Client.{array, local_after, logged, answers_of, replied, replied_from}
 use Rattle.ck_arraylaw.specs.Host.{floor_word, base_word}
 use Rattle.ck_arraylaw.specs.Known.{knows}
 use Rattle.ck_arraylaw.specs.Law.{read_stage_of}
@@ -32,10 +32,10 @@ use Rattle.ck_array.specs.declared.state.ArrayState.{ArrayState}
 use Rattle.ck_array.specs.Reads.{resting}
 use Rattle.ck_array.specs.Writes.{idle}
 use Rattle.ck_array.specs.Ends.{edits_by, IsPassReady, IsWriterReady}
-use Rattle.ck_array.specs.Events.{Reading, Writing, reached_result, answer_events, update_events, answered_event, told_event, gained, next, reached_event, reader_event, writer_event, pass_events, hand_events}
+use Rattle.ck_array.specs.Events.{answer_of, is_no_read, is_idle_writer, known, pass_events, hand_events}
 use Rattle.ck_array.proofs.EditSteps.{ready_next}
 use Rattle.ck_array.proofs.Elsewhere.{AreElsewhere, beyond, below_all, reader_still, pass_stays, hand_stays, writer_still, writer_number, reader_number}
-use Rattle.ck_array.proofs.EventSteps.{AreSilent, answers_are_events, pass_events_grow, hand_events_grow, gained_is}
+use Rattle.ck_array.proofs.EventSteps.{answers_grow}
 
 plus_none : (a : ℕ) → a ≡ a + 0
 plus_none a = omega arith
@@ -56,11 +56,6 @@ module _ (o : Origin (Signals ArrayClient)) where
   pub off_word : (s : Step) (r : ℕ) → (word_of s ≡ applied_word_of array o) ⊎ (word_of s ≡ answered_word_of array o r) → is_array_word f b s ≡ false
   off_word s r is = beyond b (b + array_words) (word_of s) (⊎_elim (λ (z : word_of s ≡ applied_word_of array o). omega arith) (λ (z : word_of s ≡ answered_word_of array o r). omega arith) is)
 
-  silent_below : (es : List Entry) → All (λ (e : Entry). (word_of e.step < base_of o) × (e.item ≡ [])) es → AreSilent o es
-  silent_below [] h = tt
-  silent_below (e ∷ es) h = let low = (All-head (λ (e : Entry). (word_of e.step < base_of o) × (e.item ≡ [])) e es h).0 in
-      ((λ wanted found opens step. let same : word_of e.step ≡ applied_word_of array o = ap word_of step in absurd (omega arith)), silent_below es (All-tail (λ (e : Entry). (word_of e.step < base_of o) × (e.item ≡ [])) e es h))
-
   abbrev pub SameAnswers : Pass (Signals ArrayClient) → Pass (Signals ArrayClient) → Type 0
   SameAnswers p q = answers_of (knows with_signals o q.token) ≡ answers_of (knows with_signals o p.token)
 
@@ -77,7 +72,7 @@ module _ (o : Origin (Signals ArrayClient)) where
       → IsPassReady o q × SameAnswers p q × (pass_events o q.token ≡ pass_events o p.token)
   sections_still p q r below tally calls =
       let s = passes_still p q below.0 r below.1 (below_all with_signals o below.0 below.2) tally calls in
-      (s.0, s.1, answers_are_events o p.token q.token below.0 [] below.1 (silent_below below.0 below.2) (s.1 ∙ sym (append-nil (answers_of (knows with_signals o p.token)))) ∙ append-nil (pass_events o p.token))
+      (s.0, s.1, steps.no_events array o (known o) (answers_grow o) p.token q.token below.0 below.1 (silent_below array o below.0 below.2) (ap (map answer_of) s.1))
 
   -- one signal of a pass
   signal_still : (p q : Pass (Signals ArrayClient)) (e : Entry) (r : ℕ) → IsPassReady o p → q ≡ record p { token = adding p.token (e ∷ []) } → (word_of e.step ≡ applied_word_of array o) ⊎ (word_of e.step ≡ answered_word_of array o r) → e.item ≡ []
@@ -89,43 +84,22 @@ module _ (o : Origin (Signals ArrayClient)) where
       → IsPassReady o q × SameAnswers p q × (pass_events o q.token ≡ pass_events o p.token)
   note_still p q r n ready made =
       let s = signal_still p q (notes (answered_word_of array o r) n) r ready made (inr refl) refl in
-      (s.0, s.1, answers_are_events o p.token q.token (notes (answered_word_of array o r) n ∷ []) [] (ap (λ (x : Pass (Signals ArrayClient)). x.token) made) ((λ wanted found opens step. cc), tt) (s.1 ∙ sym (append-nil (answers_of (knows with_signals o p.token)))) ∙ append-nil (pass_events o p.token))
+      (s.0, s.1, steps.no_events array o (known o) (answers_grow o) p.token q.token (notes (answered_word_of array o r) n ∷ []) (ap (λ (x : Pass (Signals ArrayClient)). x.token) made) ((λ wanted found opens step. cc), tt) (ap (map answer_of) s.1))
 
-  result_ok : (n found : ℕ) → n ≤ found → reached_result n found ≡ Ok tt
-  result_ok n found low = let test : nat_le n found ≡ true = grind (arith, nat_tests) in ap (λ (c : Bool). cond {A = Result (Unit {0}) ℕ} c (Ok tt) (Err found)) test
+  -- a signal of a pass between two calls answers nothing
+  answers_none : (p : Pass (Signals ArrayClient)) (e : Entry) → IsPassReady o p → is_array_word f b e.step ≡ false → (known o).answers ((known o).next (knows with_signals o p.token) e) ≡ (known o).answers (knows with_signals o p.token)
+  answers_none p e ready off = ap (λ (x : LocalState). map answer_of (answers_of x)) (ap (λ (x : LocalState). (known o).next x e) ready.local ∙ (reader_still with_signals o ready.answers e off ∙ sym ready.local))
 
-  result_err : (n found : ℕ) → found < n → reached_result n found ≡ Err found
-  result_err n found low = let test : nat_le n found ≡ false = grind (arith, nat_tests) in ap (λ (c : Bool). cond {A = Result (Unit {0}) ℕ} c (Ok tt) (Err found)) test
-
-  both : (x y : ℕ) → (x == x) && (y == y) ≡ true
-  both x y = (λ i. eq-eqb x x refl i && eq-eqb y y refl i)
-
-  -- `reached` is an event
-  reach_event : (p q : Pass (Signals ArrayClient)) (n found : ℕ) → IsPassReady o p → q ≡ record p { token = adding p.token (reaches (applied_word_of array o) n found ∷ []) } → pass_events o q.token ≡ pass_events o p.token ++ Reached n (reached_result n found) ∷ []
-  reach_event p q n found ready made =
-      let e : Entry = reaches (applied_word_of array o) n found in
-      let h : LocalState = knows with_signals o p.token in
-      let off = off_word e.step 0 (inl refl) in
-      let at : next o h e ≡ h = ap (λ (x : LocalState). next o x e) ready.local ∙ (reader_still with_signals o ready.answers e off ∙ sym ready.local) in
-      let none : gained (answers_of h) (answers_of (next o h e)) ≡ [] = gained_is (answers_of h) [] (answers_of (next o h e)) (ap answers_of at ∙ sym (append-nil (answers_of h))) in
-      let event : reader_event o h e ≡ Reached n (reached_result n found) ∷ [] =
-      (λ i. answer_events (none i) ++ reached_event o (read_stage_of (ready.local i)) e.opens e.step)
-      ∙ ap (λ (c : Bool). cond {A = Reading} c (Reached n (reached_result n found) ∷ []) []) (both 12 (applied_word_of array o)) in
-      pass_events_grow o p.token q.token (e ∷ []) (ap (λ (x : Pass (Signals ArrayClient)). x.token) made) ∙ ap (λ (xs : Reading). pass_events o p.token ++ xs) (append-nil (reader_event o h e) ∙ event)
-
-  abbrev pub Reaches : Pass (Signals ArrayClient) → Pass (Signals ArrayClient) → ℕ → Result (Unit {0}) ℕ → Type 0
-  Reaches p q n result = MatchResult result
-      (λ _. (found : ℕ) × (n ≤ found) × (q ≡ record p { token = adding p.token (reaches (applied_word_of array o) n found ∷ []) }))
-      (λ found. (found < n) × (q ≡ record p { token = adding p.token (reaches (applied_word_of array o) n found ∷ []) }))
-
-  pub reached_still : (p q : Pass (Signals ArrayClient)) (n : ℕ) (result : Result (Unit {0}) ℕ) → IsPassReady o p → Reaches p q n result
+  pub reached_still : (p q : Pass (Signals ArrayClient)) (n : ℕ) (result : Result (Unit {0}) ℕ) → IsPassReady o p → Reaches array o p q n result
       → IsPassReady o q × SameAnswers p q × (pass_events o q.token ≡ pass_events o p.token ++ Reached n result ∷ [])
-  reached_still p q n (Ok u) ready step =
-      let s = signal_still p q (reaches (applied_word_of array o) n step.0) 0 ready step.2 (inl refl) refl in
-      (s.0, s.1, reach_event p q n step.0 ready step.2 ∙ ap (λ (r : Result (Unit {0}) ℕ). pass_events o p.token ++ Reached n r ∷ []) (result_ok n step.0 step.1))
-  reached_still p q n (Err found) ready step =
-      let s = signal_still p q (reaches (applied_word_of array o) n found) 0 ready step.1 (inl refl) refl in
-      (s.0, s.1, reach_event p q n found ready step.1 ∙ ap (λ (r : Result (Unit {0}) ℕ). pass_events o p.token ++ Reached n r ∷ []) (result_err n found step.0))
+  reached_still p q n result ready step =
+      let once = reaches_once array o p q n result step in
+      let s = signal_still p q (reaches (applied_word_of array o) n once.0) 0 ready once.1 (inl refl) refl in (
+        s.0,
+        s.1,
+        steps.reached_event_is array o (known o) p q n result step (ap (λ (x : LocalState). is_no_read (read_stage_of x)) ready.local)
+            (λ found. answers_none p (reaches (applied_word_of array o) n found) ready (off_word (reaches (applied_word_of array o) n found).step 0 (inl refl))),
+      )
 
   -- a pass's tally as signals count it
   pub answers_counted : (p : Pass (Signals ArrayClient)) → origin p.token ≡ o → IsPassReady o p → p.tally ≡ pass_answers array p.token
@@ -152,28 +126,19 @@ module _ (o : Origin (Signals ArrayClient)) where
         log,
       )
 
-  -- one signal of a writer between two edits
-  writer_signal : {F : Type 0} (w v : Writer (Signals ArrayClient) F) (s : ArrayState) (e : Entry) → IsWriterReady o w s → v ≡ record w { token = adding w.token (e ∷ []) } → is_array_word f b e.step ≡ false → e.item ≡ []
-      → hand_events o v.token ≡ hand_events o w.token ++ answered_event o between_calls e.opens e.step
-  writer_signal {F} w v s e r made off none =
-      let h : LocalState = knows with_signals o w.token in
-      let token = ap (λ (x : Writer (Signals ArrayClient) F). x.token) made in
-      let at : next o h e ≡ h = ap (λ (x : LocalState). next o x e) r.ready.local ∙ (writer_still with_signals o (idle r.ready.log s.region) e off none ∙ sym r.ready.local) in
-      let nothing : gained (logged h) (logged (next o h e)) ≡ [] = gained_is (logged h) [] (logged (next o h e)) (ap logged at ∙ sym (append-nil (logged h))) in
-      let event : writer_event o h e ≡ answered_event o between_calls e.opens e.step = (λ i. update_events (replied_from (lists_after_from empty_lists (logged h)) (nothing i)) ++ told_event o (r.ready.local i) e.opens e.step) in
-      hand_events_grow o w.token v.token (e ∷ []) token ∙ ap (λ (xs : Writing). hand_events o w.token ++ xs) (append-nil (writer_event o h e) ∙ event)
+  -- a signal of a writer between two edits answers nothing
+  logs_none : {F : Type 0} (w : Writer (Signals ArrayClient) F) (s : ArrayState) (e : Entry) → IsWriterReady o w s → is_array_word f b e.step ≡ false → e.item ≡ [] → (known o).log ((known o).next (knows with_signals o w.token) e) ≡ (known o).log (knows with_signals o w.token)
+  logs_none w s e r off none = ap (λ (x : LocalState). replied (logged x)) (ap (λ (x : LocalState). (known o).next x e) r.ready.local ∙ (writer_still with_signals o (idle r.ready.log s.region) e off none ∙ sym r.ready.local))
 
   pub mark_still : {F : Type 0} (w v : Writer (Signals ArrayClient) F) (s : ArrayState) (n : ℕ) → IsWriterReady o w s → v ≡ record w { token = adding w.token (marks (applied_word_of array o) n ∷ []) } → hand_events o v.token ≡ hand_events o w.token
-  mark_still w v s n r made = let e : Entry = marks (applied_word_of array o) n in writer_signal w v s e r made (off_word e.step 0 (inl refl)) refl ∙ append-nil (hand_events o w.token)
+  mark_still {F} w v s n r made =
+      let e : Entry = marks (applied_word_of array o) n in
+      steps.mark_event array o (known o) w.token v.token n (ap (λ (x : Writer (Signals ArrayClient) F). x.token) made) (logs_none w s e r (off_word e.step 0 (inl refl)) refl)
 
   pub answered_still : {F : Type 0} (w v : Writer (Signals ArrayClient) F) (s : ArrayState) (r n : ℕ) → r < readers o → IsWriterReady o w s → v ≡ record w { token = adding w.token (asks (answered_word_of array o r) r n ∷ []) } → hand_events o v.token ≡ hand_events o w.token ++ Told r n ∷ []
-  answered_still w v s r n low ready made =
+  answered_still {F} w v s r n low ready made =
       let e : Entry = asks (answered_word_of array o r) r n in
-      let test : (14 == 14) && ((answered_word_of array o r == answered_word_of array o r) && nat_lt r (readers o)) ≡ true = (λ i. eq-eqb 14 14 refl i && (eq-eqb (answered_word_of array o r) (answered_word_of array o r) refl i && less r (readers o) low i)) in
-      writer_signal w v s e ready made (off_word e.step r (inr refl)) refl ∙ ap (λ (c : Bool). hand_events o w.token ++ cond {A = Writing} c (Told r n ∷ []) []) test
-    where
-      less : (a c : ℕ) → a < c → nat_lt a c ≡ true
-      less a c h = grind (arith, nat_tests)
+      steps.asked_event array o (known o) w.token v.token r n low (ap (λ (x : Writer (Signals ArrayClient) F). x.token) made) (ap is_idle_writer ready.ready.local) (logs_none w s e ready (off_word e.step r (inr refl)) refl)
 
   -- the writer's tally as signals count it
   pub log_counted : {F : Type 0} (w : Writer (Signals ArrayClient) F) (s : ArrayState) → origin w.token ≡ o → IsWriterReady o w s → w.tally ≡ length (writer_log array w.token)

@@ -1,5 +1,5 @@
 -- What is known of an array when it is closed.
-use Rattle.std.specs.Prelude.{◌≡◌, ℕ, zero, suc, List, [], ◌∷◌, drop, length, slice_index, All}
+use Rattle.std.specs.Prelude.{◌≡◌, ℕ, List, drop, length, slice_index, All}
 use Rattle.ck_run.specs.Run.{Run, replay, account}
 use Rattle.ck_run.specs.Tokens.{origin, number, did}
 use Rattle.ck_history.specs.declared.edit.Edit.{Edit}
@@ -11,6 +11,7 @@ use Rattle.ck_epoch.specs.Calls.{rec_of}
 use Rattle.ck_epoch.specs.Ends.{Pass}
 use Rattle.ck_epoch.specs.Epochs.{IsSafe, KeepsEpochs}
 use Rattle.ck_signal.specs.declared.signals.Signals.{Signals}
+use Rattle.ck_events.specs.Places.{places_from}
 use Rattle.ck_arraylaw.specs.declared.client.ArrayClient.{ArrayClient}
 use Rattle.ck_arraylaw.specs.Layout.{IsRegion, HoldsList}
 use Rattle.ck_arraylaw.specs.Law.{IsArrayRun, edits_in}
@@ -18,11 +19,6 @@ use Rattle.ck_arraylaw.specs.Reached.{with_signals}
 use Rattle.ck_array.specs.Answered.{answers_in, HavePlaces}
 use Rattle.ck_array.specs.Ends.{edits_by}
 use Rattle.ck_array.specs.Events.{Reading, IsLogOf, pass_events, hand_events}
-
--- n places, from the number i on
-abbrev pub places_from : (ℕ → ℕ) → ℕ → ℕ → List ℕ
-places_from place i zero = []
-places_from place i (suc n) = place i ∷ places_from place (suc i) n
 
 -- The words of an array, from its first one on, stand for this list: the root names a region that has it
 pub record ArrayStandsFor (words members : List ℕ) : Type 0 where

@@ -1,5 +1,5 @@
 //! An array with a domain of its own.
-ghost use Rattle.std.specs.Prelude.{true, ◌≡◌, ℕ, ◌+◌, ◌-◌, ◌<◌, ◌≤◌, ◌^◌, List, [], ◌∷◌, ◌++◌, length, vec_len, vec_capacity, IfOk, IfErr, IsOk, MatchResult, All};
+ghost use Rattle.std.specs.Prelude.{true, ◌≡◌, ◌≢◌, ℕ, ◌+◌, ◌-◌, ◌<◌, ◌≤◌, ◌^◌, List, [], ◌∷◌, ◌++◌, length, vec_len, vec_capacity, IfOk, IfErr, IsOk, MatchResult, All};
 ghost use Rattle.ck_run.specs.declared.account.Step.TheVariants.{Load, Store};
 ghost use Rattle.ck_run.specs.Run.{call, entry};
 ghost use Rattle.ck_run.specs.Tokens.{table, adding};
@@ -234,7 +234,7 @@ impl Array {
         ensures events { hand_events self.now.origin w.new.writer.token ≡ hand_events self.now.origin w.old.writer.token ++ Updated (Add v) result ∷ [] }
         ensures pending { (epochs w.new.writer.token).pending ≡ (epochs w.old.writer.token).pending }
     {
-        edit(&self.domain, &mut w.writer, &mut w.state, Edit::Add(v))
+        self.change(w, Edit::Add(v))
     }
 
     /// Takes the first such member out of the pending list and puts the last member into its place, as `ck_array_remove`. Missing where there is
@@ -250,7 +250,23 @@ impl Array {
         ensures events { hand_events self.now.origin w.new.writer.token ≡ hand_events self.now.origin w.old.writer.token ++ Updated (Drop v) result ∷ [] }
         ensures pending { (epochs w.new.writer.token).pending ≡ (epochs w.old.writer.token).pending }
     {
-        edit(&self.domain, &mut w.writer, &mut w.state, Edit::Drop(v))
+        self.change(w, Edit::Drop(v))
+    }
+
+    // An edit of the pending list.
+    fn change<F>(&self, w: &mut ArrayWriter<F>, e: Edit) -> EditReply
+        requires table { table w.old.writer.token ≡ self.now }
+        requires calls { w.old.writer.calls < 2 ^ 40 }
+        requires pending { e ≢ Commit }
+        ensures same { w.new.writer ≡ record w.old.writer { token = w.new.writer.token; calls = w.old.writer.calls + 1; tally = w.old.writer.tally + 1 } }
+        ensures table { table w.new.writer.token ≡ table w.old.writer.token }
+        ensures reply { result ≡ (list_step (lists_after_from empty_lists (edits_by self.now.origin w.old.writer.token)) e).1 }
+        ensures log { edits_by self.now.origin w.new.writer.token ≡ edits_by self.now.origin w.old.writer.token ++ e ∷ [] }
+        ensures steps { (root : ℕ) × (w.new.writer.token ≡ adding w.old.writer.token (entry (opens_of e) (Load (base_word with_signals self.now.origin) root) ∷ [])) }
+        ensures events { hand_events self.now.origin w.new.writer.token ≡ hand_events self.now.origin w.old.writer.token ++ Updated e result ∷ [] }
+        ensures pending { (epochs w.new.writer.token).pending ≡ (epochs w.old.writer.token).pending }
+    {
+        edit(&self.domain, &mut w.writer, &mut w.state, e)
     }
 
     /// Makes the pending list the committed one, as `ck_array_commit`, but always in another region. Busy where no region of the length that

@@ -14,30 +14,35 @@ use Rattle.ck_signal.specs.declared.signals.Signals.{Signals}
 use Rattle.ck_signal.specs.Signals.{signals}
 use Rattle.ck_signal.specs.Told.{TrueSignals}
 use Rattle.ck_history.specs.declared.log.LogEntry.{LogEntry}
-use Rattle.ck_history.specs.Map.{find}
+use Rattle.ck_history.specs.Map.{find, answer_after}
+use Rattle.ck_history.specs.Places.{AreBoundedFrom}
 use Rattle.ck_slots.specs.Slots.{SlotsView}
 use Rattle.ck_slots.specs.Standing.{Copies, single, StandFor}
+use Rattle.ck_events.specs.Events.{reader_events, writer_events}
+use Rattle.ck_events.specs.Places.{places_from}
+use Rattle.ck_events.proofs.Placed.{AreRight, placed}
+use Rattle.ck_events.proofs.Bounded.{bounded}
 use Rattle.ck_htlaw.specs.declared.client.HtClient.{HtClient}
+use Rattle.ck_htlaw.specs.Actions.{most}
 use Rattle.ck_htlaw.specs.Client.{Answers, table, answers_after, local_after, orders_of, first_reader}
 use Rattle.ck_htlaw.specs.Host.{lies}
 use Rattle.ck_htlaw.specs.Known.{knows}
-use Rattle.ck_htlaw.specs.Law.{TableLaw, WordsStand, IsTableRun, local_in, answers_in, updates_in, retries_of, copies_by, copies_of}
+use Rattle.ck_htlaw.specs.Law.{TableLaw, WordsStand, IsTableRun, local_in, answers_in, updates_in, linearized, look_state_of, retries_of, copies_by, copies_of}
 use Rattle.ck_htlaw.specs.Layout.{layout, counters_of}
-use Rattle.ck_htlaw.specs.Linearized.{AreReplies, map_after}
+use Rattle.ck_htlaw.specs.Linearized.{AreReplies, map_after, updates}
 use Rattle.ck_htlaw.specs.Reached.{with_signals}
 use Rattle.ck_htlaw.specs.Table.{Layout, WriterState, ReaderState, LocalState, writer, reader, view, column}
 use Rattle.ck_htlaw.proofs.Tokens.{local_after_all}
 use Rattle.ck_htread.specs.Answered.{looks_in, HavePlaces, PlacesLaw}
 use Rattle.ck_htread.proofs.Answering.{stays_reader}
+use Rattle.ck_htread.proofs.Placing.{mono}
 use Rattle.ck_htread.proofs.Telling.{record_of}
-use Rattle.ck_ht.specs.Closed.{places_from, TableStandsFor, ArePlacedInLog, IsClosedTable}
+use Rattle.ck_ht.specs.Closed.{TableStandsFor, ArePlacedInLog, IsClosedTable}
 use Rattle.ck_ht.specs.Ends.{IsIdle, IsPassReady}
-use Rattle.ck_history.specs.Places.{AreBoundedFrom}
-use Rattle.ck_ht.specs.Events.{pass_events, reader_events, writer_events}
+use Rattle.ck_ht.specs.Events.{is_no_look, known, pass_events, hand_events}
 use Rattle.ck_ht.specs.Settled.{SettledLaw}
-use Rattle.ck_ht.proofs.PlacingEvents.{placed_from}
-use Rattle.ck_ht.proofs.BoundingEvents.{bounded_from}
-use Rattle.ck_ht.proofs.LogEvents.{is_log_of}
+use Rattle.ck_ht.proofs.Counts.{local_is, few_given, log_is_whole, has_logged}
+use Rattle.ck_ht.proofs.EventSteps.{no_look_is, log_grows, adds_one, is_log_of}
 
 -- a writer's account is that of the first token
 pub is_first : (l : Layout) (words : List ℕ) (n : ℕ) (es : List Entry) (p : WriterState) → local_after l words n es ≡ writer p → n ≡ 0
@@ -109,17 +114,33 @@ module _ (told : TrueSignals table) (laws : (o : Origin (Signals HtClient)) → 
     did_p : account (suc num.0) c.run ≡ did p
     did_p = ap (λ (n : ℕ). account n c.run) (sym num.1) ∙ p_did
 
+    -- what is known of the places
+    right : AreRight table o (known o) told (linearized with_signals o) (mono with_signals o (laws o)) (has_logged o (laws o)) c.run c.is_run num.0 (answer_after nat_cmp most (updates (updates_in with_signals o c.run))) (place num.0)
+    right = let h = all_have num.0 in record {
+      gave = λ i x at. sym (h.gave i x.0 x.1 at);
+      rise = h.are.rise;
+      before = h.are.before;
+      since = λ past rest i e is_out. h.are.since past rest i e (no_look_is (look_state_of (local_in with_signals o past (suc num.0))) (ap (λ (x : LocalState). is_no_look (look_state_of x)) (sym (local_is o past (suc num.0))) ∙ is_out));
+    }
+
     placed_p : ArePlacedInLog (knows with_signals o w).log (pass_events o p) (places (rec_of p))
     placed_p = subst (λ (us : List (LogEntry ℕ)). ArePlacedInLog us (pass_events o p) (places (rec_of p))) log
         (subst (λ (r : ℕ). ArePlacedInLog (updates_in with_signals o c.run) (pass_events o p) (places r)) rec
-        (subst (λ (n : ℕ). ArePlacedInLog (updates_in with_signals o c.run) (reader_events o (answers_after k o.words n []) (did p)) (places num.0)) (sym num.1)
-        (placed_from o told (laws o) c.run c.is_run num.0 (place num.0) (all_have num.0) (did p) [] (answers_after k o.words (suc num.0) []) refl did_p (length (looks_in with_signals o c.run num.0)) 0 (omega arith) (omega arith) (λ j low less. omega arith))))
+        (subst (λ (n : ℕ). ArePlacedInLog (updates_in with_signals o c.run) (reader_events table o (known o) (answers_after k o.words n []) (did p)) (places num.0)) (sym num.1)
+        (subst (λ (es : List Entry). ArePlacedInLog (updates_in with_signals o c.run) (reader_events table o (known o) (answers_after k o.words (suc num.0) []) es) (places num.0)) did_p
+        (placed table o (known o) told (linearized with_signals o) (mono with_signals o (laws o)) (has_logged o (laws o)) c.run c.is_run num.0 (answer_after nat_cmp most (updates (updates_in with_signals o c.run))) (place num.0) right
+        (λ done e. adds_one o (answers_after k o.words (suc num.0) done) e) refl))))
 
     few_retries : retries_of (knows with_signals o p).local ≤ 2 * length (knows with_signals o w).log
     few_retries =
         let knows_p : answers_after k o.words (suc num.0) (account (suc num.0) c.run) ≡ knows with_signals o p = (λ i. answers_after k o.words (sym num.1 i) (did_p i)) in
         let local_p : local_in with_signals o c.run (suc num.0) ≡ (knows with_signals o p).local = sym (local_after_all k (answers_after k o.words (suc num.0) []) (account (suc num.0) c.run)) ∙ ap (λ (a : Answers). a.local) knows_p in
         subst (λ (z : LocalState × List (LogEntry ℕ)). retries_of z.0 ≤ 2 * length z.1) (λ i. (local_p i, (answers i).log)) ((laws o).bounded c.run [] num.0 free.0 whole free_run.1 free.2)
+
+  are_bounded : AreBoundedFrom places 0 (hand_events o w)
+  are_bounded = subst (λ (n : ℕ). AreBoundedFrom places 0 (writer_events table o (known o) (answers_after k o.words n []) (did w))) (sym first)
+      (subst (λ (es : List Entry). AreBoundedFrom places 0 (writer_events table o (known o) (answers_after k o.words 0 []) es)) mine
+      (bounded table o (known o) (log_grows o) told (linearized with_signals o) (few_given o) (log_is_whole o (all_settled o)) c.run c.is_run place (λ r. (all_have r).are.before) refl))
 
   pub is_closed : IsClosedTable w ps words
   is_closed = record {
@@ -139,7 +160,6 @@ module _ (told : TrueSignals table) (laws : (o : Origin (Signals HtClient)) → 
     places = places;
     listed = λ r. refl;
     placed = λ i d low. let q = get_or ps i d in let r = ready i d low in placed_p q.token (c.passes i d low).1 r.reader_state r.local;
-    bounded = subst (λ (n : ℕ). AreBoundedFrom places 0 (writer_events o (answers_after k o.words n []) (did w))) (sym first)
-        (bounded_from o told (all_settled o) c.run c.is_run place all_have (did w) [] (answers_after k o.words 0 []) refl mine 0 refl);
+    bounded = are_bounded;
     retries = λ i d low. let q = get_or ps i d in let r = ready i d low in few_retries q.token (c.passes i d low).1 r.reader_state r.local;
   }

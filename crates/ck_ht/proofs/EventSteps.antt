@@ -1,116 +1,106 @@
--- What each kind of step adds to the events of a token.
-use Rattle.std.proofs.Common.{◌≡◌, ℕ, ◌⊎◌, ⊎_elim, inl, inr, Bool, true, false, cond, ◌==◌, ◌&&◌, List, [], ◌∷◌, ◌++◌, map, append-nil, append_assoc, eqb-true, refl, sym, ap, ◌∙◌, arith}
+-- What is known of a table's tokens, step by step: what a step answers, and what that adds to their events.
+use Rattle.std.proofs.Common.{◌≡◌, ℕ, ⊎_elim, inl, inr, true, nat_lt, cond, List, [], ◌∷◌, ◌++◌, map, append-nil, refl, ap, ◌∙◌, arith}
 use Rattle.std.specs.Prelude.{Option}
+use Rattle.std.proofs.lemmas.List.{map-append}
 use Rattle.ck_run.specs.declared.account.Step.{Step}
 use Rattle.ck_run.specs.declared.account.Step.TheVariants.{Load}
 use Rattle.ck_run.specs.declared.account.Entry.{Entry}
 use Rattle.ck_run.specs.Run.{call, further}
-use Rattle.ck_run.specs.Machine.{state_after}
-use Rattle.ck_run.specs.Tokens.{adding, did, number}
-use Rattle.ck_run.proofs.Law.{state-append}
-use Rattle.ck_run.proofs.Lists.{first_is, rest_is}
+use Rattle.ck_run.specs.Tokens.{adding}
+use Rattle.ck_run.proofs.Lists.{first_is}
 use Rattle.ck_epoch.specs.State.{Origin, Token}
 use Rattle.ck_signal.specs.declared.signals.Signals.{Signals}
 use Rattle.ck_signal.specs.Words.{reached}
-use Rattle.ck_signal.specs.Told.{applied_word_of}
-use Rattle.ck_history.specs.declared.event.ReaderEvent.TheVariants.{Answered, Reached}
+use Rattle.ck_history.specs.declared.log.Look.{Look}
+use Rattle.ck_history.specs.declared.log.LogEntry.{LogEntry}
+use Rattle.ck_history.specs.declared.update.Update.{Update}
+use Rattle.ck_history.specs.declared.update.Reply.{Reply}
+use Rattle.ck_events.specs.Events.{answer_events, update_events}
+use Rattle.ck_events.proofs.Bounded.{is_log}
+use Rattle.ck_events.proofs.Placed.{AddsOne}
+use Rattle.ck_events.proofs.Steps.{AreSilent, AreQuiet, OpensNone, further_quiet}
+use Rattle.ck_events.proofs.Steps as steps
 use Rattle.ck_htlaw.specs.declared.client.HtClient.{HtClient}
 use Rattle.ck_htlaw.specs.Calls.{look}
-use Rattle.ck_htlaw.specs.Client.{Answers, table, answers_next, answers_after, looks_next}
+use Rattle.ck_htlaw.specs.Client.{Answers, table, answers_next, looks_next, logged, due_next}
 use Rattle.ck_htlaw.specs.Host.{lies}
 use Rattle.ck_htlaw.specs.Known.{knows}
 use Rattle.ck_htlaw.specs.Law.{look_state_of}
 use Rattle.ck_htlaw.specs.Look.{LookState, no_look}
 use Rattle.ck_htlaw.specs.Reached.{with_signals}
-use Rattle.ck_htlaw.specs.Table.{Layout}
-use Rattle.ck_history.specs.declared.log.Look.{Look}
+use Rattle.ck_htlaw.specs.Stages.{Stage, idle}
+use Rattle.ck_htlaw.specs.Table.{Layout, LocalState, writer, reader}
 use Rattle.ck_htread.specs.Reading.{Looks, look_entries, answered_by}
 use Rattle.ck_htread.specs.Scan.{scan_loads}
-use Rattle.ck_ht.specs.Events.{Reading, Writing, reached_result, answer_events, reached_event, reader_event, writer_event, reader_events, writer_events, pass_events, hand_events}
+use Rattle.ck_htread.proofs.Answering.{answers_or_not}
+use Rattle.ck_htwrite.specs.Writes.{opened}
+use Rattle.ck_ht.specs.Ends.{IsIdle}
+use Rattle.ck_ht.specs.Events.{IsLogOf, is_no_look, is_idle_stage, is_idle_writer, replied, known, pass_events, hand_events}
 
-both_true : (a b : Bool) → (a && b) ≡ true → (a ≡ true) × (b ≡ true)
-both_true true true e = (refl, refl)
-both_true true false e = absurd cc
-both_true false b e = absurd cc
+-- a reader is between two looks exactly where it has no look
+pub no_look_is : (g : LookState) → is_no_look g ≡ true → g ≡ no_look
+no_look_is no_look is = refl
+no_look_is g is = absurd cc
 
-pub answer_events-append : (xs ys : List (ℕ × Option ℕ)) → answer_events (xs ++ ys) ≡ answer_events xs ++ answer_events ys
-answer_events-append [] ys = refl
-answer_events-append (x ∷ xs) ys = ap (λ (es : Reading). Answered x.0 x.1 ∷ es) (answer_events-append xs ys)
+-- and the writer is between two updates
+pub idle_is : (h : LocalState) → is_idle_writer h ≡ true → IsIdle h
+idle_is (writer p) is = (p, refl, stage_is p.stage is)
+  where
+    stage_is : (g : Stage) → is_idle_stage g ≡ true → g ≡ idle
+    stage_is idle is = refl
+    stage_is g is = absurd cc
+idle_is (reader y) is = absurd cc
+
+-- the updates of a log, and their replies
+updates_of : (log : List (LogEntry ℕ)) → map (λ (x : Update ℕ × Reply). x.0) (map replied log) ≡ map (λ (e : LogEntry ℕ). e.update) log
+updates_of [] = refl
+updates_of (e ∷ es) = ap (λ (us : List (Update ℕ)). e.update ∷ us) (updates_of es)
+
+replies_of : (log : List (LogEntry ℕ)) → map (λ (x : Update ℕ × Reply). x.1) (map replied log) ≡ map (λ (e : LogEntry ℕ). e.reply) log
+replies_of [] = refl
+replies_of (e ∷ es) = ap (λ (rs : List Reply). e.reply ∷ rs) (replies_of es)
+
+pub opened_quiet : (opens : List ℕ) (ss : List Step) → OpensNone opens → AreQuiet (opened opens ss)
+opened_quiet opens [] h = tt
+opened_quiet opens (s ∷ ss) h = (h, further_quiet ss)
 
 module _ (o : Origin (Signals HtClient)) where
   abbrev l : Layout
   l = lies with_signals o
 
-  -- a step that is none of `reached`, or one
-  pub reached_is : (g : LookState) (opens : List ℕ) (s : Step) → (reached_event o g opens s ≡ [])
-      ⊎ ((wanted : ℕ) × (found : ℕ) × (g ≡ no_look) × (opens ≡ reached ∷ wanted ∷ []) × (s ≡ Load (applied_word_of table o) found) × (reached_event o g opens s ≡ Reached wanted (reached_result wanted found) ∷ []))
-  reached_is no_look (name ∷ wanted ∷ []) (Load at found) = by ((name == reached) && (at == applied_word_of table o)) refl
-    where
-      by : (b : Bool) → ((name == reached) && (at == applied_word_of table o)) ≡ b → (cond {A = Reading} ((name == reached) && (at == applied_word_of table o)) (Reached wanted (reached_result wanted found) ∷ []) [] ≡ [])
-          ⊎ ((w : ℕ) × (f : ℕ) × (no_look ≡ no_look) × (name ∷ wanted ∷ [] ≡ reached ∷ w ∷ []) × (Load at found ≡ Load (applied_word_of table o) f) × (cond {A = Reading} ((name == reached) && (at == applied_word_of table o)) (Reached wanted (reached_result wanted found) ∷ []) [] ≡ Reached w (reached_result w f) ∷ []))
-      by false test = inl (ap (λ (b : Bool). cond {A = Reading} b (Reached wanted (reached_result wanted found) ∷ []) []) test)
-      by true test = let t = both_true (name == reached) (at == applied_word_of table o) test in
-          inr (wanted, found, refl, ap (λ (n : ℕ). n ∷ wanted ∷ []) (eqb-true name reached t.0), ap (λ (a : ℕ). Load a found) (eqb-true at (applied_word_of table o) t.1), ap (λ (b : Bool). cond {A = Reading} b (Reached wanted (reached_result wanted found) ∷ []) []) test)
-  reached_is g opens s = inl refl
+  -- the answers and the log only grow
+  pub answers_grow : (a : Answers) (e : Entry) → (more : List (ℕ × Option ℕ)) × ((known o).answers ((known o).next a e) ≡ (known o).answers a ++ more)
+  answers_grow a e = (looks_next l a.local e, refl)
 
-  -- the entry isn't that of `reached`
-  abbrev pub IsSilent : Entry → Type 0
-  IsSilent e = (wanted found : ℕ) → e.opens ≡ reached ∷ wanted ∷ [] → e.step ≡ Load (applied_word_of table o) found → ⊥
+  pub log_grows : (a : Answers) (e : Entry) → (more : List (Update ℕ × Reply)) × ((known o).log ((known o).next a e) ≡ (known o).log a ++ more)
+  log_grows a e = let more : List (LogEntry ℕ) = cond (nat_lt (logged a.local) (logged (answers_next l a e).local)) (due_next l a.local e a.due ∷ []) [] in (map replied more, map-append replied a.log more)
 
-  abbrev pub AreSilent : List Entry → Type 0
-  AreSilent [] = Unit {0}
-  AreSilent (e ∷ es) = IsSilent e × AreSilent es
+  -- a reader's step answers at most one look
+  pub adds_one : (a : Answers) (e : Entry) → AddsOne table o (known o) a e
+  adds_one a e = ⊎_elim
+      (λ none. inl (ap (λ (xs : List (ℕ × Option ℕ)). a.looks ++ xs) none ∙ append-nil a.looks))
+      (λ w. inr ((w.0, w.1), ap (λ (xs : List (ℕ × Option ℕ)). a.looks ++ xs) w.2, λ is_out. w.3 (no_look_is (look_state_of a.local) is_out)))
+      (answers_or_not l a.local e)
 
-  pub no_event : (g : LookState) (e : Entry) → IsSilent e → reached_event o g e.opens e.step ≡ []
-  no_event g e silent = ⊎_elim (λ h. h) (λ h. absurd (silent h.0 h.1 h.3 h.4)) (reached_is g e.opens e.step)
+  -- entries that are none of `answered` add the updates by which the log grows
+  pub updates_are_events : (t u : Token (Signals HtClient)) (es : List Entry) (new : List (LogEntry ℕ)) → u ≡ adding t es → AreQuiet es → (knows with_signals o u).log ≡ (knows with_signals o t).log ++ new
+      → hand_events o u ≡ hand_events o t ++ update_events (map replied new)
+  updates_are_events t u es new made quiet log = steps.updates_are_events table o (known o) log_grows t u es (map replied new) made quiet (ap (map replied) log ∙ map-append replied (knows with_signals o t).log new)
 
-  pub reader_events-append : (a : Answers) (es fs : List Entry) → reader_events o a (es ++ fs) ≡ reader_events o a es ++ reader_events o (state_after (answers_next l) a es) fs
-  reader_events-append a [] fs = refl
-  reader_events-append a (e ∷ es) fs = ap (λ (xs : Reading). reader_event o a e ++ xs) (reader_events-append (answers_next l a e) es fs) ∙ sym (append_assoc (reader_event o a e) (reader_events o (answers_next l a e) es) (reader_events o (state_after (answers_next l) (answers_next l a e) es) fs))
-
-  pub writer_events-append : (a : Answers) (es fs : List Entry) → writer_events o a (es ++ fs) ≡ writer_events o a es ++ writer_events o (state_after (answers_next l) a es) fs
-  writer_events-append a [] fs = refl
-  writer_events-append a (e ∷ es) fs = ap (λ (xs : Writing). writer_event o a e ++ xs) (writer_events-append (answers_next l a e) es fs) ∙ sym (append_assoc (writer_event o a e) (writer_events o (answers_next l a e) es) (writer_events o (state_after (answers_next l) (answers_next l a e) es) fs))
-
-  -- the events of a pass after some entries more, and those of a writer
-  pub pass_events_grow : (t u : Token (Signals HtClient)) (es : List Entry) → u ≡ adding t es → pass_events o u ≡ pass_events o t ++ reader_events o (knows with_signals o t) es
-  pass_events_grow t u es made = ap (pass_events o) made ∙ reader_events-append (answers_after l o.words (number t) []) (did t) es
-
-  pub hand_events_grow : (t u : Token (Signals HtClient)) (es : List Entry) → u ≡ adding t es → hand_events o u ≡ hand_events o t ++ writer_events o (knows with_signals o t) es
-  hand_events_grow t u es made = ap (hand_events o) made ∙ writer_events-append (answers_after l o.words (number t) []) (did t) es
-
-  -- entries that are none of `reached` add what they answer
-  silent_events : (a : Answers) (es : List Entry) → AreSilent es → (gained : List (ℕ × Option ℕ)) × ((state_after (answers_next l) a es).looks ≡ a.looks ++ gained) × (reader_events o a es ≡ answer_events gained)
-  silent_events a [] h = ([], sym (append-nil a.looks), refl)
-  silent_events a (e ∷ es) h =
-      let more = silent_events (answers_next l a e) es h.1 in
-      let first = looks_next l a.local e in (
-        first ++ more.0,
-        more.1 ∙ append_assoc a.looks first more.0,
-        (λ i. (ap (λ (xs : Reading). answer_events first ++ xs) (no_event (look_state_of a.local) e h.0) ∙ append-nil (answer_events first)) i ++ more.2 i) ∙ sym (answer_events-append first more.0),
-      )
-
-  same_behind : (xs ys zs : List (ℕ × Option ℕ)) → xs ++ ys ≡ xs ++ zs → ys ≡ zs
-  same_behind [] ys zs e = e
-  same_behind (x ∷ xs) ys zs e = same_behind xs ys zs (rest_is x x (xs ++ ys) (xs ++ zs) e)
-
-  pub looks_are_events : (t u : Token (Signals HtClient)) (es : List Entry) (gained : List (ℕ × Option ℕ)) → u ≡ adding t es → AreSilent es → (knows with_signals o u).looks ≡ (knows with_signals o t).looks ++ gained
-      → pass_events o u ≡ pass_events o t ++ answer_events gained
-  looks_are_events t u es gained made silent looks =
-      let s = silent_events (knows with_signals o t) es silent in
-      let after : (knows with_signals o u).looks ≡ (knows with_signals o t).looks ++ s.0 = ap (λ (v : Token (Signals HtClient)). (knows with_signals o v).looks) made ∙ (ap (λ (a : Answers). a.looks) (state-append (answers_next l) (answers_after l o.words (number t) []) (did t) es) ∙ s.1) in
-      let same : s.0 ≡ gained = same_behind (knows with_signals o t).looks s.0 gained (sym after ∙ looks) in
-      pass_events_grow t u es made ∙ (ap (λ (xs : Reading). pass_events o t ++ xs) (s.2 ∙ ap answer_events same))
+  -- the updates among a writer's events are those of its log
+  pub is_log_of : (w : Token (Signals HtClient)) → IsLogOf (hand_events o w) (knows with_signals o w).log
+  is_log_of w = let h = is_log table o (known o) log_grows w refl in (h.0 ∙ updates_of (knows with_signals o w).log, h.1 ∙ replies_of (knows with_signals o w).log)
 
   -- the entries of a look
-  further_silent : (ss : List Step) → AreSilent (map further ss)
+  further_silent : (ss : List Step) → AreSilent table o (map further ss)
   further_silent [] = tt
   further_silent (s ∷ ss) = (λ wanted found e f. cc, further_silent ss)
 
-  pub look_silent : (key : ℕ) (s : Step) (ss : List Step) → AreSilent (call look (key ∷ []) (s ∷ ss))
+  look_silent : (key : ℕ) (s : Step) (ss : List Step) → AreSilent table o (call look (key ∷ []) (s ∷ ss))
   look_silent key s ss = ((λ wanted found e f. let z : look ≡ reached = first_is look reached (key ∷ []) (wanted ∷ []) e in absurd (omega arith)), further_silent ss)
 
   -- what a look adds
   pub look_events : (t u : Token (Signals HtClient)) (key : ℕ) (result : Look) → Looks with_signals o key t result u → (knows with_signals o u).looks ≡ (knows with_signals o t).looks ++ answered_by key result
       → pass_events o u ≡ pass_events o t ++ answer_events (answered_by key result)
-  look_events t u key result h looks = looks_are_events t u (look_entries with_signals o key h.root h.before h.slots h.after) (answered_by key result) h.steps (look_silent key (Load l.base h.root) (Load (l.counter h.root) h.before ∷ (scan_loads l h.root key 0 h.slots ++ Load (l.counter h.root) h.after ∷ []))) looks
+  look_events t u key result h looks = steps.answers_are_events table o (known o) answers_grow t u (look_entries with_signals o key h.root h.before h.slots h.after) (answered_by key result) h.steps
+      (look_silent key (Load l.base h.root) (Load (l.counter h.root) h.before ∷ (scan_loads l h.root key 0 h.slots ++ Load (l.counter h.root) h.after ∷ []))) looks

@@ -1,6 +1,7 @@
 -- A poll, after which each answer that waits is given back.
 use Rattle.std.proofs.Common.{◌≡◌, ℕ, ◌+◌, ◌*◌, ◌^◌, ◌≤◌, List, [], ◌++◌, append-nil, sym, ap, ◌∙◌, subst, arith}
 use Rattle.std.specs.Prelude.{Option}
+use Rattle.ck_run.specs.declared.account.Entry.{Entry}
 use Rattle.ck_run.specs.Tokens.{table}
 use Rattle.ck_words.specs.declared.back.Back.{Back}
 use Rattle.ck_epoch.specs.declared.answers.Poll.{Poll}
@@ -11,6 +12,7 @@ use Rattle.ck_epoch.specs.Lists.{homes}
 use Rattle.ck_signal.specs.declared.signals.Signals.{Signals}
 use Rattle.ck_history.specs.declared.log.Busy.{Busy}
 use Rattle.ck_history.specs.declared.log.LogEntry.{LogEntry}
+use Rattle.ck_events.proofs.Epochs.{AreOfPoll, poll_steps}
 use Rattle.ck_htlaw.specs.declared.client.HtClient.{HtClient}
 use Rattle.ck_htlaw.specs.Client.{home_of}
 use Rattle.ck_htlaw.specs.Known.{knows}
@@ -29,9 +31,8 @@ use Rattle.ck_ht.specs.Events.{hand_events}
 use Rattle.ck_ht.specs.Updating.{HasPolled}
 use Rattle.ck_arena.specs.Found.{found_by}
 use Rattle.ck_ht.proofs.Regions.{after_table_dispatch}
-use Rattle.ck_ht.proofs.Polls.{poll_steps}
-use Rattle.ck_ht.proofs.Staying.{local_outside, ready_given, ready_outside}
-use Rattle.ck_ht.proofs.UpdateEvents.{updates_are_events}
+use Rattle.ck_ht.proofs.EventSteps.{updates_are_events}
+use Rattle.ck_ht.proofs.Staying.{AreOutside, outside_below, local_outside, ready_given, ready_outside}
 
 module _ {F : Type 0} (o : Origin (Signals HtClient)) (w v : Writer (Signals HtClient) F) (s : HtState) (r : IsWriterReady o w s) (answer : Poll)
     (waits : v.waiting ≡ w.waiting ++ homes home_of (dispatched_items (state w.token).epoch answer (queue (state w.token).pending)))
@@ -51,20 +52,26 @@ module _ {F : Type 0} (o : Origin (Signals HtClient)) (w v : Writer (Signals HtC
   module _ (steps : Polls (records_of o) (state w.token).epoch w.token answer v.token) (same : table v.token ≡ table w.token) (room : v.room ≡ w.room) (handler : v.handler ≡ w.handler) (tally : v.tally ≡ w.tally) (calls : v.calls ≡ w.calls + 1)
       (w' : Writer (Signals HtClient) F) (s' : HtState) (made : w' ≡ record v { waiting = [] }) (lists : s' ≡ record s { arena = s'.arena })
       (kept : IsKept n 0 s'.root (unreturned (state w'.token) w'.waiting) s'.arena) (own : AreTableItems n 0 (unreturned (state w'.token) w'.waiting)) where
+    es : (es : List Entry) × AreOfPoll (records_of o) w.token v.token es
+    es = poll_steps (records_of o) (state w.token).epoch w.token v.token answer steps
+
+    outside : AreOutside with_signals o es.0
+    outside = outside_below with_signals o es.0 es.1.1
+
     still : Ready with_signals o v s × ((knows with_signals o v.token).log ≡ (knows with_signals o w.token).log)
-    still = let es = poll_steps with_signals o (state w.token).epoch w.token v.token answer steps in ready_outside with_signals o w v s es.0 r.ready es.1 es.2 tally (omega arith) dispatched.0
+    still = ready_outside with_signals o w v s es.0 r.ready es.1.0 outside tally (omega arith) dispatched.0
 
     token : w'.token ≡ v.token
     token = ap (λ (x : Writer (Signals HtClient) F). x.token) made
 
     pub has_polled : (found : Option Busy) → found ≡ found_by (state w.token).epoch answer → HasPolled o w s found w' s'
-    has_polled found is = let es = poll_steps with_signals o (state w.token).epoch w.token v.token answer steps in record {
+    has_polled found is = record {
       same = made ∙ (λ i. record v { calls = calls i; room = room i; handler = handler i; tally = tally i; waiting = sym r.given i }) ∙ (λ i. record w { token = sym token i; calls = w.calls + 1 });
       same_table = ap table token ∙ same;
       lists = lists;
-      local = ap (λ (t : Token (Signals HtClient)). (knows with_signals o t).local) token ∙ local_outside with_signals o w v s es.0 r.ready.lists es.1 es.2;
+      local = ap (λ (t : Token (Signals HtClient)). (knows with_signals o t).local) token ∙ local_outside with_signals o w v s es.0 r.ready.lists es.1.0 outside;
       log = ap (λ (t : Token (Signals HtClient)). (knows with_signals o t).log) token ∙ still.1;
-      events = ap (hand_events o) token ∙ (updates_are_events o w.token v.token es.0 [] es.1 es.3 (still.1 ∙ sym (append-nil (knows with_signals o w.token).log)) ∙ append-nil (hand_events o w.token));
+      events = ap (hand_events o) token ∙ (updates_are_events o w.token v.token es.0 [] es.1.0 es.1.2 (still.1 ∙ sym (append-nil (knows with_signals o w.token).log)) ∙ append-nil (hand_events o w.token));
       answer = answer;
       polls = subst (λ (t : Token (Signals HtClient)). Polls (records_of o) (state w.token).epoch w.token answer t) (sym token) steps;
       found_is = is;

@@ -1,14 +1,15 @@
 -- What an update says of the table and the writer that its caller sees.
 use Rattle.std.proofs.Common.{◌≡◌, ℕ, ◌+◌, ◌≤◌, [], ◌∷◌, ◌++◌, length, sym, ap, ◌∙◌, subst, arith}
-use Rattle.std.specs.Prelude.{IfOk, MatchResult}
+use Rattle.std.specs.Prelude.{IfOk, IfErr, MatchResult}
 use Rattle.std.specs.declared.result.Result.{Result}
 use Rattle.std.specs.declared.result.Result.TheVariants.{Ok, Err}
 use Rattle.std.specs.Ordering.{nat_cmp}
-use Rattle.ck_run.specs.Tokens.{Table}
+use Rattle.ck_run.specs.Tokens.{Table, table}
 use Rattle.ck_epoch.specs.declared.about.About.{About}
 use Rattle.ck_epoch.specs.State.{state}
 use Rattle.ck_epoch.specs.Ends.{Writer}
 use Rattle.ck_signal.specs.declared.signals.Signals.{Signals}
+use Rattle.ck_history.specs.declared.event.WriterEvent.TheVariants.{Updated}
 use Rattle.ck_history.specs.declared.log.Busy.{Busy}
 use Rattle.ck_history.specs.declared.update.Reply.{Reply}
 use Rattle.ck_history.specs.declared.update.Update.{Update}
@@ -22,6 +23,7 @@ use Rattle.ck_htlaw.specs.Table.{WriterState}
 use Rattle.ck_htwrite.specs.declared.state.HtState.{HtState}
 use Rattle.ck_htwrite.specs.Writes.{WriterIs}
 use Rattle.ck_ht.specs.Ends.{HtWriter}
+use Rattle.ck_ht.specs.Events.{hand_events}
 use Rattle.ck_ht.specs.Room.{HasRoomFor}
 use Rattle.ck_ht.specs.Updating.{IsBusy, IsUpdated, MakesUpdate}
 
@@ -56,9 +58,25 @@ module _ (F : Type 0) (u : Update ℕ) (d : Table (About (Signals HtClient))) (w
   log_of (Ok x) h = h.log
   log_of (Err b) h = h.log
 
+  pub events_of : (r : Result Reply Busy) → Does F u r v s d w → MatchResult r (λ x. hand_events d.origin v.token ≡ hand_events d.origin w.writer.token ++ Updated u x ∷ []) (λ b. hand_events d.origin v.token ≡ hand_events d.origin w.writer.token)
+  events_of (Ok x) h = h.events
+  events_of (Err b) h = h.events
+
   pub steps_of : (r : Result Reply Busy) → Does F u r v s d w → IfOk r (λ x. (p : WriterState) → WriterIs with_signals d.origin w.writer.token p → MakesUpdate d.origin u p w.writer.token v.token)
   steps_of (Ok x) h = h.steps
   steps_of (Err b) h = tt
+
+  pub calls_of : (r : Result Reply Busy) → Does F u r v s d w → v.calls ≤ w.writer.calls + 3
+  calls_of (Ok x) h = h.calls
+  calls_of (Err b) h = let c = ap (λ (y : Writer (Signals HtClient) F). y.calls) h.same in omega arith
+
+  pub table_of : (r : Result Reply Busy) → Does F u r v s d w → table v.token ≡ table w.writer.token
+  table_of (Ok x) h = h.same_table
+  table_of (Err b) h = h.same_table
+
+  pub busy_of : (r : Result Reply Busy) → Does F u r v s d w → IfErr r (λ b. IsBusy d.origin u w.writer w.state b v s)
+  busy_of (Ok x) h = tt
+  busy_of (Err b) h = h
 
   pub pending_of : (r : Result Reply Busy) → Does F u r v s d w → length (state v.token).pending ≤ length (state w.writer.token).pending + 1
   pending_of (Ok x) h = h.pending

@@ -1,8 +1,6 @@
 -- The signal calls of a table: they leave its tokens where they stand, and are events or none.
-use Rattle.std.proofs.Common.{◌≡◌, ℕ, ◌+◌, ◌<◌, ◌≤◌, ◌⊎◌, ⊎_elim, inl, inr, Bool, true, false, cond, nat_le, nat_lt, ◌==◌, ◌&&◌, eq-eqb, List, [], ◌∷◌, ◌++◌, length, append-nil, refl, sym, ap, ◌∙◌, subst, arith}
-use Rattle.std.specs.Prelude.{Result, Ok, Err, MatchResult, All}
-use Rattle.std.proofs.lemmas.Bool.Decides.{nat_tests}
-use Rattle.std.proofs.lemmas.List.Elements.{All-head, All-tail}
+use Rattle.std.proofs.Common.{◌≡◌, ℕ, ◌+◌, ◌<◌, ◌≤◌, ◌⊎◌, ⊎_elim, inl, inr, false, List, [], ◌∷◌, ◌++◌, length, map, append-nil, refl, sym, ap, ◌∙◌, subst, arith}
+use Rattle.std.specs.Prelude.{Option, Result}
 use Rattle.ck_run.specs.declared.account.Step.{Step}
 use Rattle.ck_run.specs.declared.account.Entry.{Entry}
 use Rattle.ck_run.specs.Range.{word_of}
@@ -16,31 +14,31 @@ use Rattle.ck_signal.specs.Signals.{inside, readers}
 use Rattle.ck_signal.specs.Told.{applied_word_of, answered_word_of, writer_log, pass_answers}
 use Rattle.ck_history.specs.declared.event.ReaderEvent.TheVariants.{Reached}
 use Rattle.ck_history.specs.declared.event.WriterEvent.TheVariants.{Told}
+use Rattle.ck_history.specs.declared.log.LogEntry.{LogEntry}
+use Rattle.ck_events.proofs.Steps.{silent_below, Reaches, reaches_once}
+use Rattle.ck_events.proofs.Steps as steps
 use Rattle.ck_htlaw.specs.declared.client.HtClient.{HtClient}
-use Rattle.ck_htlaw.specs.Client.{Answers, table, answers_after, answers_next, layout_of, logged, due_next}
+use Rattle.ck_htlaw.specs.Client.{Answers, table, answers_after, answers_next, layout_of}
 use Rattle.ck_htlaw.specs.Host.{lies}
 use Rattle.ck_htlaw.specs.Known.{knows}
 use Rattle.ck_htlaw.specs.Law.{look_state_of}
-use Rattle.ck_htlaw.specs.Look.{no_look}
+use Rattle.ck_htlaw.specs.Linearized.{map_after}
 use Rattle.ck_htlaw.specs.Reached.{with_signals}
-use Rattle.ck_htlaw.specs.Stages.{Stage, idle}
 use Rattle.ck_htlaw.specs.Table.{Layout, is_table_word}
 use Rattle.ck_htlaw.proofs.Tokens.{local_after_all, knows_next}
 use Rattle.ck_htread.specs.Reading.{LookTotals, totals_of}
 use Rattle.ck_htread.proofs.Telling.{record_of}
 use Rattle.ck_htwrite.specs.declared.state.HtState.{HtState}
-use Rattle.ck_htwrite.specs.State.{Ready}
 use Rattle.ck_htwrite.specs.Arena.{AreTableItems}
+use Rattle.ck_htwrite.specs.Entries.{HasKeys}
+use Rattle.ck_htwrite.specs.State.{Ready}
 use Rattle.ck_htwrite.specs.Writes.{counters_in}
 use Rattle.ck_ht.specs.Ends.{IsBetweenUpdates, IsPassReady, IsWriterReady}
-use Rattle.ck_history.specs.declared.log.LogEntry.{LogEntry}
-use Rattle.ck_htlaw.specs.Linearized.{map_after}
-use Rattle.ck_htwrite.specs.Entries.{HasKeys}
-use Rattle.ck_ht.proofs.Staying.{items_beside, log_beside, ready_beside}
-use Rattle.ck_ht.specs.Events.{Reading, Writing, reached_result, answer_events, reached_event, answered_event, update_events, told_event, logs_next, reader_event, writer_event, pass_events, hand_events}
+use Rattle.ck_ht.specs.Events.{is_no_look, is_idle_stage, is_idle_writer, replied, known, pass_events, hand_events}
 use Rattle.ck_ht.proofs.Closing.{is_first}
-use Rattle.ck_ht.proofs.Elsewhere.{beyond, not_less, looks_still, ready_still, below_all, writer_still}
-use Rattle.ck_ht.proofs.EventSteps.{AreSilent, looks_are_events, pass_events_grow, hand_events_grow}
+use Rattle.ck_ht.proofs.Elsewhere.{beyond, looks_still, ready_still, below_all, writer_still}
+use Rattle.ck_ht.proofs.EventSteps.{answers_grow}
+use Rattle.ck_ht.proofs.Staying.{items_beside, log_beside, ready_beside}
 
 plus_none : (a : ℕ) → a ≡ a + 0
 plus_none a = omega arith
@@ -53,19 +51,13 @@ module _ (o : Origin (Signals HtClient)) where
   pub off_word : (s : Step) (r : ℕ) → (word_of s ≡ applied_word_of table o) ⊎ (word_of s ≡ answered_word_of table o r) → is_table_word k s ≡ false
   off_word s r is = beyond k.base (k.base + k.size) (word_of s) (⊎_elim (λ (z : word_of s ≡ applied_word_of table o). omega arith) (λ (z : word_of s ≡ answered_word_of table o r). omega arith) is)
 
-  -- steps on the words of the epochs are no events
-  silent_below : (es : List Entry) → All (λ (e : Entry). (word_of e.step < base_of o) × (e.item ≡ [])) es → AreSilent o es
-  silent_below [] h = tt
-  silent_below (e ∷ es) h = let low = (All-head (λ (e : Entry). (word_of e.step < base_of o) × (e.item ≡ [])) e es h).0 in
-      ((λ wanted found opens step. let same : word_of e.step ≡ applied_word_of table o = ap word_of step in absurd (omega arith)), silent_below es (All-tail (λ (e : Entry). (word_of e.step < base_of o) × (e.item ≡ [])) e es h))
-
   -- a section that begins or ends
   pub sections_still : (p q : Pass (Signals HtClient)) → IsPassReady o p → StepsBelow (base_of o) p.token q.token → q.tally ≡ p.tally → p.calls ≤ q.calls
       → IsPassReady o q × (totals_of (knows with_signals o q.token) ≡ totals_of (knows with_signals o p.token)) × (pass_events o q.token ≡ pass_events o p.token)
   sections_still p q ready below tally calls =
       let s = ready_still with_signals o p q below.0 ready below.1 (below_all with_signals o below.0 below.2) tally calls in
       let looks = ap (λ (t : LookTotals). t.looks) s.1 in
-      (s.0, s.1, looks_are_events o p.token q.token below.0 [] below.1 (silent_below below.0 below.2) (looks ∙ sym (append-nil (knows with_signals o p.token).looks)) ∙ append-nil (pass_events o p.token))
+      (s.0, s.1, steps.no_events table o (known o) (answers_grow o) p.token q.token below.0 below.1 (silent_below table o below.0 below.2) looks)
 
   -- one signal of a pass
   signal_still : (p q : Pass (Signals HtClient)) (e : Entry) (r : ℕ) → IsPassReady o p → q ≡ record p { token = adding p.token (e ∷ []) } → (word_of e.step ≡ applied_word_of table o) ⊎ (word_of e.step ≡ answered_word_of table o r)
@@ -78,42 +70,19 @@ module _ (o : Origin (Signals HtClient)) where
   note_still p q r n ready made =
       let s = signal_still p q (notes (answered_word_of table o r) n) r ready made (inr refl) in
       let looks = ap (λ (t : LookTotals). t.looks) s.1 in
-      (s.0, s.1, looks_are_events o p.token q.token (notes (answered_word_of table o r) n ∷ []) [] (ap (λ (x : Pass (Signals HtClient)). x.token) made) ((λ wanted found opens step. cc), tt) (looks ∙ sym (append-nil (knows with_signals o p.token).looks)) ∙ append-nil (pass_events o p.token))
+      (s.0, s.1, steps.no_events table o (known o) (answers_grow o) p.token q.token (notes (answered_word_of table o r) n ∷ []) (ap (λ (x : Pass (Signals HtClient)). x.token) made) ((λ wanted found opens step. cc), tt) looks)
 
-  result_ok : (n found : ℕ) → n ≤ found → reached_result n found ≡ Ok tt
-  result_ok n found low = let test : nat_le n found ≡ true = grind (arith, nat_tests) in ap (λ (b : Bool). cond {A = Result (Unit {0}) ℕ} b (Ok tt) (Err found)) test
-
-  result_err : (n found : ℕ) → found < n → reached_result n found ≡ Err found
-  result_err n found low = let test : nat_le n found ≡ false = grind (arith, nat_tests) in ap (λ (b : Bool). cond {A = Result (Unit {0}) ℕ} b (Ok tt) (Err found)) test
-
-  both : (x y : ℕ) → (x == x) && (y == y) ≡ true
-  both x y = (λ i. eq-eqb x x refl i && eq-eqb y y refl i)
-
-  -- `reached` is an event
-  reach_event : (p q : Pass (Signals HtClient)) (n found : ℕ) → IsPassReady o p → q ≡ record p { token = adding p.token (reaches (applied_word_of table o) n found ∷ []) } → pass_events o q.token ≡ pass_events o p.token ++ Reached n (reached_result n found) ∷ []
-  reach_event p q n found ready made =
-      let e : Entry = reaches (applied_word_of table o) n found in
-      let a : Answers = knows with_signals o p.token in
-      let off = off_word e.step 0 (inl refl) in
-      let outside : look_state_of a.local ≡ no_look = ap look_state_of ready.local ∙ ready.outside in
-      let event : reader_event o a e ≡ Reached n (reached_result n found) ∷ [] =
-      (λ i. answer_events (looks_still k a.local e off i) ++ reached_event o (outside i) e.opens e.step)
-      ∙ ap (λ (b : Bool). cond {A = Reading} b (Reached n (reached_result n found) ∷ []) []) (both 12 (applied_word_of table o)) in
-      pass_events_grow o p.token q.token (e ∷ []) (ap (λ (x : Pass (Signals HtClient)). x.token) made) ∙ ap (λ (xs : Reading). pass_events o p.token ++ xs) (append-nil (reader_event o a e) ∙ event)
-
-  abbrev Reaches : Pass (Signals HtClient) → Pass (Signals HtClient) → ℕ → Result (Unit {0}) ℕ → Type 0
-  Reaches p q n result = MatchResult result
-      (λ _. (found : ℕ) × (n ≤ found) × (q ≡ record p { token = adding p.token (reaches (applied_word_of table o) n found ∷ []) }))
-      (λ found. (found < n) × (q ≡ record p { token = adding p.token (reaches (applied_word_of table o) n found ∷ []) }))
-
-  pub reached_still : (p q : Pass (Signals HtClient)) (n : ℕ) (result : Result (Unit {0}) ℕ) → IsPassReady o p → Reaches p q n result
+  pub reached_still : (p q : Pass (Signals HtClient)) (n : ℕ) (result : Result (Unit {0}) ℕ) → IsPassReady o p → Reaches table o p q n result
       → IsPassReady o q × (totals_of (knows with_signals o q.token) ≡ totals_of (knows with_signals o p.token)) × (pass_events o q.token ≡ pass_events o p.token ++ Reached n result ∷ [])
-  reached_still p q n (Ok u) ready step =
-      let s = signal_still p q (reaches (applied_word_of table o) n step.0) 0 ready step.2 (inl refl) in
-      (s.0, s.1, reach_event p q n step.0 ready step.2 ∙ ap (λ (r : Result (Unit {0}) ℕ). pass_events o p.token ++ Reached n r ∷ []) (result_ok n step.0 step.1))
-  reached_still p q n (Err found) ready step =
-      let s = signal_still p q (reaches (applied_word_of table o) n found) 0 ready step.1 (inl refl) in
-      (s.0, s.1, reach_event p q n found ready step.1 ∙ ap (λ (r : Result (Unit {0}) ℕ). pass_events o p.token ++ Reached n r ∷ []) (result_err n found step.0))
+  reached_still p q n result ready step =
+      let once = reaches_once table o p q n result step in
+      let s = signal_still p q (reaches (applied_word_of table o) n once.0) 0 ready once.1 (inl refl) in
+      let a : Answers = knows with_signals o p.token in (
+        s.0,
+        s.1,
+        steps.reached_event_is table o (known o) p q n result step (ap is_no_look (ap look_state_of ready.local ∙ ready.outside))
+            (λ found. ap (λ (xs : List (ℕ × Option ℕ)). a.looks ++ xs) (looks_still k a.local (reaches (applied_word_of table o) n found) (off_word (reaches (applied_word_of table o) n found).step 0 (inl refl))) ∙ append-nil a.looks),
+      )
 
   -- a pass's tally as signals count it
   pub answers_counted : (p : Pass (Signals HtClient)) → origin p.token ≡ o → IsPassReady o p → p.tally ≡ pass_answers table p.token
@@ -148,43 +117,34 @@ module _ (o : Origin (Signals HtClient)) where
     keys = subst (λ (us : List (LogEntry ℕ)). HasKeys (map_after us)) (sym (log_beside with_signals o w v s e r.ready made off none same)) r.keys;
   }
 
-  -- one signal of a writer between two updates
+  -- one signal of a writer between two updates, which answers nothing
   writer_signal : {F : Type 0} (w v : Writer (Signals HtClient) F) (e : Entry) → IsBetweenUpdates o w → v ≡ record w { token = adding w.token (e ∷ []) } → is_table_word k e.step ≡ false → e.item ≡ []
-      → IsBetweenUpdates o v × ((knows with_signals o v.token).log ≡ (knows with_signals o w.token).log)
-      × (hand_events o v.token ≡ hand_events o w.token ++ answered_event o idle e.opens e.step)
+      → IsBetweenUpdates o v × ((knows with_signals o v.token).log ≡ (knows with_signals o w.token).log) × ((known o).log ((known o).next (knows with_signals o w.token) e) ≡ (known o).log (knows with_signals o w.token))
   writer_signal {F} w v e b made off none =
-      let a : Answers = knows with_signals o w.token in
-      let token = ap (λ (u : Writer (Signals HtClient) F). u.token) made in
-      let after : knows with_signals o v.token ≡ answers_next k a e = knows_next with_signals o w.token v.token e token in
-      let h = writer_still k a b.is_idle.0 e b.is_idle.1 off none in
+      let after : knows with_signals o v.token ≡ answers_next k (knows with_signals o w.token) e = knows_next with_signals o w.token v.token e (ap (λ (u : Writer (Signals HtClient) F). u.token) made) in
+      let h = writer_still k (knows with_signals o w.token) b.is_idle.0 e b.is_idle.1 off none in
       let log = ap (λ (x : Answers). x.log) after ∙ h.1 in
       let tally = ap (λ (u : Writer (Signals HtClient) F). u.tally) made in
-      let calls = ap (λ (u : Writer (Signals HtClient) F). u.calls) made in
-      let no_log : logs_next o a e ≡ [] = (λ i. cond (nat_lt (logged (b.is_idle.1 i)) (logged (h.0 i))) (due_next k a.local e a.due ∷ []) []) ∙ ap (λ (c : Bool). cond c (due_next k a.local e a.due ∷ []) []) (not_less b.is_idle.0.log) in
-      let event : writer_event o a e ≡ answered_event o idle e.opens e.step = (λ i. update_events (no_log i) ++ told_event o (b.is_idle.1 i) e.opens e.step) ∙ ap (λ (g : Stage). answered_event o g e.opens e.step) b.is_idle.2 in (
+      let calls = ap (λ (u : Writer (Signals HtClient) F). u.calls) made in (
         record {
           is_idle = (b.is_idle.0, ap (λ (x : Answers). x.local) after ∙ h.0, b.is_idle.2);
           tally = tally ∙ (b.tally ∙ sym (ap length log));
           few = (let f = b.few in omega arith);
         },
         log,
-        hand_events_grow o w.token v.token (e ∷ []) token ∙ ap (λ (xs : Writing). hand_events o w.token ++ xs) (append-nil (writer_event o a e) ∙ event),
+        ap (map replied) h.1,
       )
 
   pub mark_still : {F : Type 0} (w v : Writer (Signals HtClient) F) (n : ℕ) → IsBetweenUpdates o w → v ≡ record w { token = adding w.token (marks (applied_word_of table o) n ∷ []) }
       → IsBetweenUpdates o v × ((knows with_signals o v.token).log ≡ (knows with_signals o w.token).log) × (hand_events o v.token ≡ hand_events o w.token)
-  mark_still w v n b made =
+  mark_still {F} w v n b made =
       let e : Entry = marks (applied_word_of table o) n in
       let s = writer_signal w v e b made (off_word e.step 0 (inl refl)) refl in
-      (s.0, s.1, s.2 ∙ append-nil (hand_events o w.token))
+      (s.0, s.1, steps.mark_event table o (known o) w.token v.token n (ap (λ (u : Writer (Signals HtClient) F). u.token) made) s.2)
 
   pub answered_still : {F : Type 0} (w v : Writer (Signals HtClient) F) (r n : ℕ) → r < readers o → IsBetweenUpdates o w → v ≡ record w { token = adding w.token (asks (answered_word_of table o r) r n ∷ []) }
       → IsBetweenUpdates o v × ((knows with_signals o v.token).log ≡ (knows with_signals o w.token).log) × (hand_events o v.token ≡ hand_events o w.token ++ Told r n ∷ [])
-  answered_still w v r n low b made =
+  answered_still {F} w v r n low b made =
       let e : Entry = asks (answered_word_of table o r) r n in
       let s = writer_signal w v e b made (off_word e.step r (inr refl)) refl in
-      let test : (14 == 14) && ((answered_word_of table o r == answered_word_of table o r) && nat_lt r (readers o)) ≡ true = (λ i. eq-eqb 14 14 refl i && (eq-eqb (answered_word_of table o r) (answered_word_of table o r) refl i && less r (readers o) low i)) in
-      (s.0, s.1, s.2 ∙ ap (λ (b : Bool). hand_events o w.token ++ cond {A = Writing} b (Told r n ∷ []) []) test)
-    where
-      less : (a c : ℕ) → a < c → nat_lt a c ≡ true
-      less a c h = grind (arith, nat_tests)
+      (s.0, s.1, steps.asked_event table o (known o) w.token v.token r n low (ap (λ (u : Writer (Signals HtClient) F). u.token) made) (ap is_idle_writer b.is_idle.1 ∙ ap is_idle_stage b.is_idle.2) s.2)

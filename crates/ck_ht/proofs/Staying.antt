@@ -1,10 +1,13 @@
 -- Steps elsewhere leave a table's writer and its lists where they stand.
-use Rattle.std.proofs.Common.{◌≡◌, ◌≤◌, false, List, [], ◌∷◌, length, refl, sym, ap, ◌∙◌, subst, arith}
+use Rattle.std.proofs.Common.{◌≡◌, ◌<◌, ◌≤◌, false, List, [], ◌∷◌, length, refl, sym, ap, ◌∙◌, subst, arith}
+use Rattle.std.specs.Prelude.{All}
+use Rattle.std.proofs.lemmas.List.Elements.{All-head, All-tail}
 use Rattle.ck_run.specs.declared.account.Entry.{Entry}
+use Rattle.ck_run.specs.Range.{word_of}
 use Rattle.ck_run.specs.Machine.{state_after}
 use Rattle.ck_run.specs.Tokens.{adding, did, number}
 use Rattle.ck_run.proofs.Law.{state-append}
-use Rattle.ck_epoch.specs.State.{Origin, Token, state}
+use Rattle.ck_epoch.specs.State.{Origin, Token, base_of, state}
 use Rattle.ck_epoch.specs.Calls.{SameItemsAndEpoch}
 use Rattle.ck_epoch.specs.Ends.{Writer}
 use Rattle.ck_htlaw.specs.Client.{Answers, answers_after, answers_next}
@@ -17,7 +20,7 @@ use Rattle.ck_htwrite.specs.Arena.{IsKept}
 use Rattle.ck_htwrite.specs.State.{IsReady, Ready}
 use Rattle.ck_htwrite.specs.Writes.{counters_in}
 use Rattle.ck_htwrite.proofs.Rebuilding.{with_arena}
-use Rattle.ck_ht.proofs.Elsewhere.{writer_still}
+use Rattle.ck_ht.proofs.Elsewhere.{AreElsewhere, below_all, writer_still}
 
 module _ {D : Type 0} (host : Host D) (o : Origin D) where
   abbrev l : Layout
@@ -27,6 +30,14 @@ module _ {D : Type 0} (host : Host D) (o : Origin D) where
   abbrev pub AreOutside : List Entry → Type 0
   AreOutside [] = Unit {0}
   AreOutside (e ∷ es) = (is_table_word l e.step ≡ false) × (e.item ≡ []) × AreOutside es
+
+  -- steps on the words of the epochs are such
+  pub outside_below : (es : List Entry) → All (λ (e : Entry). (word_of e.step < base_of o) × (e.item ≡ [])) es → AreOutside es
+  outside_below es low = both es (below_all host o es low) low
+    where
+      both : (es : List Entry) → AreElsewhere l es → All (λ (e : Entry). (word_of e.step < base_of o) × (e.item ≡ [])) es → AreOutside es
+      both [] off low = tt
+      both (e ∷ es) off low = (off.0, (All-head (λ (x : Entry). (word_of x.step < base_of o) × (x.item ≡ [])) e es low).1, both es off.1 (All-tail (λ (x : Entry). (word_of x.step < base_of o) × (x.item ≡ [])) e es low))
 
   stays : (a : Answers) (p : WriterState) (es : List Entry) → a.local ≡ writer p → AreOutside es → ((state_after (answers_next l) a es).local ≡ writer p) × ((state_after (answers_next l) a es).log ≡ a.log)
   stays a p [] local off = (local, refl)

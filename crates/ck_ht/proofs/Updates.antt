@@ -57,6 +57,7 @@ use Rattle.ck_htwrite.proofs.Between.{as_many_pairs, not_found, same_writer}
 use Rattle.ck_arena.proofs.Giving.{polled}
 use Rattle.ck_ht.specs.Ends.{IsWriterReady}
 use Rattle.ck_ht.specs.Events.{hand_events}
+use Rattle.ck_events.proofs.Steps.{AreQuiet, AreQuiet-append, OpensNone, none_named, further_quiet}
 use Rattle.ck_ht.specs.Room.{HasRoomFor}
 use Rattle.ck_ht.specs.Updating.{AreAllInUse, AreUpdating, HasPolled, IsBusy, IsDue, IsKeyed, IsMade, IsRefused, IsUpdated, IsWanting, due_log}
 use Rattle.ck_arena.specs.Found.{found_by}
@@ -65,19 +66,11 @@ use Rattle.ck_ht.proofs.Keyed.{keyed_next}
 use Rattle.ck_ht.proofs.Regions.{all_in_use, few_regions, half_beside, one_region_free}
 use Rattle.ck_ht.proofs.Settling.{is_within}
 use Rattle.ck_ht.proofs.Sizes.{arena_long}
-use Rattle.ck_ht.proofs.UpdateEvents.{AreQuiet, OpensNone, none_named, opened_quiet, updates_are_events}
+use Rattle.ck_ht.proofs.EventSteps.{opened_quiet, updates_are_events}
 
 -- the steps of an update are none of `answered`
-AreQuiet-append : (xs ys : List Entry) → AreQuiet xs → AreQuiet ys → AreQuiet (xs ++ ys)
-AreQuiet-append [] ys a b = b
-AreQuiet-append (x ∷ xs) ys a b = (a.0, AreQuiet-append xs ys a.1 b)
-
 none_opened : OpensNone []
 none_opened r e = absurd cc
-
-all_further : (ss : List Step) → AreQuiet (map further ss)
-all_further [] = tt
-all_further (s ∷ ss) = (none_opened, all_further ss)
 
 rebuild_quiet : (l : Layout) (opens : List ℕ) (old root : ℕ) (stores : List Step) (epoch : ℕ) → OpensNone opens → AreQuiet (rebuild_entries l opens old root stores epoch)
 rebuild_quiet l opens old root stores epoch none = AreQuiet-append (opened opens (Store (l.word root 0 0) 0 ∷ stores)) (further (Store l.base root) ∷ handing [] (l.item old) (Load 0 epoch) ∷ []) (opened_quiet opens (Store (l.word root 0 0) 0 ∷ stores) none) (none_opened, (none_opened, tt))
@@ -85,7 +78,7 @@ rebuild_quiet l opens old root stores epoch none = AreQuiet-append (opened opens
 makes_quiet : (l : Layout) (p : WriterState) (AreSteps : List Step → Type 0) (plan : _) (opens : List ℕ) (key value : ℕ) (es : List Entry) → OpensNone opens → Makes l p AreSteps plan opens key value es → AreQuiet es
 makes_quiet l p AreSteps plan opens key value es none m = ⊎_elim
     (λ x. subst AreQuiet (sym x.2) (opened_quiet opens x.0 none))
-    (λ x. let g : AreGrowing l p opens key value es = x.1 in subst AreQuiet (sym g.are) (AreQuiet-append (rebuild_entries l opens p.root g.root g.stores g.epoch) (map further (insert_steps l g.root g.at key value)) (rebuild_quiet l opens p.root g.root g.stores g.epoch none) (all_further (insert_steps l g.root g.at key value))))
+    (λ x. let g : AreGrowing l p opens key value es = x.1 in subst AreQuiet (sym g.are) (AreQuiet-append (rebuild_entries l opens p.root g.root g.stores g.epoch) (map further (insert_steps l g.root g.at key value)) (rebuild_quiet l opens p.root g.root g.stores g.epoch none) (further_quiet (insert_steps l g.root g.at key value))))
     m
 
 update_quiet : (l : Layout) (p : WriterState) (u : Update ℕ) (es : List Entry) → AreUpdating l p u es → AreQuiet es

@@ -1,5 +1,5 @@
 -- What is known of a table when it is closed.
-use Rattle.std.specs.Prelude.{◌≡◌, ℕ, zero, suc, ◌*◌, ◌≤◌, List, [], ◌∷◌, drop, length, slice_index, All}
+use Rattle.std.specs.Prelude.{◌≡◌, ℕ, ◌*◌, ◌≤◌, List, drop, length, slice_index, All}
 use Rattle.std.specs.Ordering.{nat_cmp}
 use Rattle.ck_run.specs.Run.{Run, replay, account}
 use Rattle.ck_run.specs.Tokens.{origin, number, did}
@@ -12,6 +12,7 @@ use Rattle.ck_history.specs.declared.log.LogEntry.{LogEntry}
 use Rattle.ck_history.specs.Map.{Map, find, answer_after}
 use Rattle.ck_history.specs.Places.{ArePlacedAt, AreBoundedFrom}
 use Rattle.ck_slots.specs.Standing.{single, StandFor}
+use Rattle.ck_events.specs.Places.{places_from}
 use Rattle.ck_htlaw.specs.declared.client.HtClient.{HtClient}
 use Rattle.ck_htlaw.specs.Actions.{most}
 use Rattle.ck_htlaw.specs.Client.{orders_of}
@@ -23,11 +24,6 @@ use Rattle.ck_htlaw.specs.Reached.{with_signals}
 use Rattle.ck_htlaw.specs.Table.{view}
 use Rattle.ck_htread.specs.Answered.{HavePlaces, looks_in}
 use Rattle.ck_ht.specs.Events.{Reading, IsLogOf, pass_events, hand_events}
-
--- n places, from the number i on
-abbrev pub places_from : (ℕ → ℕ) → ℕ → ℕ → List ℕ
-places_from place i zero = []
-places_from place i (suc n) = place i ∷ places_from place (suc i) n
 
 -- The words of a table, from its first one on, stand for this map
 abbrev pub TableStandsFor : HtClient → List ℕ → Map ℕ → Type 0

@@ -1,5 +1,5 @@
 //! A table with a domain of its own.
-ghost use Rattle.std.specs.Prelude.{true, ◌≡◌, ℕ, ◌+◌, ◌-◌, ◌<◌, ◌≤◌, ◌^◌, Option, List, [], ◌∷◌, ◌++◌, length, vec_len, IfOk, IfErr, IsOk, MatchResult, All};
+ghost use Rattle.std.specs.Prelude.{true, ◌≡◌, ◌≢◌, ℕ, ◌+◌, ◌-◌, ◌<◌, ◌≤◌, ◌^◌, Option, List, [], ◌∷◌, ◌++◌, length, vec_len, IfOk, IfErr, IsOk, MatchResult, All};
 ghost use Rattle.std.specs.Ordering.{nat_cmp};
 ghost use Rattle.ck_run.specs.declared.account.Step.{Step};
 ghost use Rattle.ck_run.specs.declared.account.Step.TheVariants.{Store};
@@ -37,10 +37,11 @@ ghost use Rattle.ck_htwrite.specs.Updates.{RemoveSteps};
 ghost use Rattle.ck_htwrite.specs.Writes.{WriterIs, opened};
 ghost use Rattle.ck_ht.specs.Closed.{IsClosedTable};
 ghost use Rattle.ck_ht.specs.Ends.{IsPassReady};
-ghost use Rattle.ck_ht.specs.Events.{answer_events, pass_events, hand_events};
+ghost use Rattle.ck_events.specs.Events.{answer_events};
+ghost use Rattle.ck_ht.specs.Events.{pass_events, hand_events};
 ghost use Rattle.ck_ht.specs.Getting.{Gets};
 ghost use Rattle.ck_ht.specs.Room.{HasRoomFor, IsRoomFor};
-ghost use Rattle.ck_ht.specs.Updating.{MakesUpdate, IsBusy};
+ghost use Rattle.ck_ht.specs.Updating.{MakesUpdate, MayRebuild, IsBusy, IsKeyed};
 
 use crate::giving::give_all;
 use crate::laws::settled_law;
@@ -336,12 +337,7 @@ impl Ht {
         ensures ok { (epochs w.old.writer.token).pending ≡ [] → IsOk result }
         ensures pending { length (epochs w.new.writer.token).pending ≤ length (epochs w.old.writer.token).pending + 1 }
     {
-        apply(
-            &self.domain,
-            &mut w.writer,
-            &mut w.state,
-            &Update::Set(key, value),
-        )
+        self.update(w, &Update::Set(key, value))
     }
 
     /// Gives the key this value if it is absent, as `ck_ht_put_spmc`, and else answers the value that it has. Full and Busy as in `set`.
@@ -367,12 +363,7 @@ impl Ht {
         ensures ok { (epochs w.old.writer.token).pending ≡ [] → IsOk result }
         ensures pending { length (epochs w.new.writer.token).pending ≤ length (epochs w.old.writer.token).pending + 1 }
     {
-        apply(
-            &self.domain,
-            &mut w.writer,
-            &mut w.state,
-            &Update::Put(key, value),
-        )
+        self.update(w, &Update::Put(key, value))
     }
 
     /// Rebuilds the map to as many slots where tombstones stand in it, as `ck_ht_gc_spmc`, but whole and at once, into another region; else it
@@ -393,7 +384,34 @@ impl Ht {
         ensures ok { (epochs w.old.writer.token).pending ≡ [] → IsOk result }
         ensures pending { length (epochs w.new.writer.token).pending ≤ length (epochs w.old.writer.token).pending + 1 }
     {
-        apply(&self.domain, &mut w.writer, &mut w.state, &Update::Tidy)
+        self.update(w, &Update::Tidy)
+    }
+
+    // Makes the update, after one poll where the arena has no region for the rebuild that is due.
+    fn update<F: Fn(Item) -> Back>(
+        &self,
+        w: &mut HtWriter<F>,
+        update: &Update<Key>,
+    ) -> Result<Reply, Busy>
+        requires table { table w.old.writer.token ≡ self.now }
+        requires calls { w.old.writer.calls < 2 ^ 40 - 8 }
+        requires handler { Answers (λ item. true) (λ item. home_of item) (F.pre w.old.writer.handler) (F.post w.old.writer.handler) }
+        requires rebuilds { MayRebuild update.now }
+        requires keyed { IsKeyed update.now }
+        requires room { update.now ≢ Tidy → HasRoomFor self.now.origin.config.client.client.arena_log (length (step nat_cmp most (map_after (knows with_signals self.now.origin w.old.writer.token).log) update.now).0) }
+        ensures same { w.new.writer ≡ record w.old.writer { token = w.new.writer.token; calls = w.new.writer.calls; tally = w.new.writer.tally } }
+        ensures tally { MatchResult result (λ r. w.new.writer.tally ≡ w.old.writer.tally + 1) (λ b. w.new.writer.tally ≡ w.old.writer.tally) }
+        ensures calls { w.new.writer.calls ≤ w.old.writer.calls + 3 }
+        ensures table { table w.new.writer.token ≡ table w.old.writer.token }
+        ensures reply { IfOk result (λ r. r ≡ (step nat_cmp most (map_after (knows with_signals self.now.origin w.old.writer.token).log) update.now).1) }
+        ensures log { MatchResult result (λ r. (knows with_signals self.now.origin w.new.writer.token).log ≡ (knows with_signals self.now.origin w.old.writer.token).log ++ record { update = update.now; reply = r } ∷ []) (λ b. (knows with_signals self.now.origin w.new.writer.token).log ≡ (knows with_signals self.now.origin w.old.writer.token).log) }
+        ensures events { MatchResult result (λ r. hand_events self.now.origin w.new.writer.token ≡ hand_events self.now.origin w.old.writer.token ++ Updated update.now r ∷ []) (λ b. hand_events self.now.origin w.new.writer.token ≡ hand_events self.now.origin w.old.writer.token) }
+        ensures steps { IfOk result (λ r. (p : WriterState) → WriterIs with_signals self.now.origin w.old.writer.token p → MakesUpdate self.now.origin update.now p w.old.writer.token w.new.writer.token) }
+        ensures busy { IfErr result (λ b. IsBusy self.now.origin update.now w.old.writer w.old.state b w.new.writer w.new.state) }
+        ensures ok { (epochs w.old.writer.token).pending ≡ [] → IsOk result }
+        ensures pending { length (epochs w.new.writer.token).pending ≤ length (epochs w.old.writer.token).pending + 1 }
+    {
+        apply(&self.domain, &mut w.writer, &mut w.state, update)
     }
 
     /// Removes the key, as `ck_ht_remove_spmc`, and answers the value that it had, or that it was missing.

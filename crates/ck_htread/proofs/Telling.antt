@@ -87,4 +87,4 @@ module _ {D : Type 0} (host : Host D) (o : Origin D) where
       let found : get_elem? (looks_in host o run r) i ≡ some (k, x) = subst (λ (j : ℕ). get_elem? (answers_after l o.words j (account j run)).looks i ≡ some (k, x)) n.1
       (ap (λ (ls : List (ℕ × Option ℕ)). get_elem? ls i) all ∙ at_longer (knows host o t).looks m.0 i (k, x) at) in
       let p = law run r t_run in
-      (p.0 i, subst (λ (s : ℕ). HasPlace host o run s i k x (p.0 i)) rec (p.1.moments i k x found))
+      (p.0 i, subst (λ (s : ℕ). HasPlace host o run s i k x (p.0 i)) rec (p.1.are.moments i (k, x) found))

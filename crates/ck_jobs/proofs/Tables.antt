@@ -28,7 +28,7 @@ use Rattle.ck_ht.specs.Ends.{HtWriter}
 use Rattle.ck_ht.specs.Room.{HasRoomFor}
 use Rattle.ck_ht.specs.Events.{Writing, pass_events, hand_events}
 use Rattle.ck_ht.specs.Getting.{Repeats, Gets}
-use Rattle.ck_ht.proofs.LogEvents.{is_log_of}
+use Rattle.ck_ht.proofs.EventSteps.{is_log_of}
 use Rattle.ck_script.specs.declared.line.Numbered.{Numbered}
 use Rattle.ck_script.specs.declared.line.UpLine.{UpLine}
 use Rattle.ck_script.specs.declared.line.UpLine.TheVariants.{Call, Hold}

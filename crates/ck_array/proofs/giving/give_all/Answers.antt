@@ -9,6 +9,8 @@ use Rattle.ck_epoch.specs.Lists.{by_list, homes}
 use Rattle.ck_epoch.specs.Rounds.{Rounds}
 use Rattle.ck_epoch.specs.State.{Origin, Token, barrier, queue, records_of, state}
 use Rattle.ck_signal.specs.declared.signals.Signals.{Signals}
+use Rattle.ck_events.proofs.Epochs.{IsLow, low_call, low_round}
+use Rattle.ck_events.proofs.Steps.{AreQuiet, call_quiet}
 use Rattle.ck_arena.specs.Arena.{unreturned, AreBacks, AreItems, IsKept}
 use Rattle.ck_arena.proofs.Giving.{listed}
 use Rattle.ck_arraylaw.specs.declared.client.ArrayClient.{ArrayClient}
@@ -20,10 +22,7 @@ use Rattle.ck_array.specs.declared.state.ArrayState.{ArrayState}
 use Rattle.ck_array.specs.Ends.{IsWriterReady}
 use Rattle.ck_array.specs.Writes.{region_piece}
 use Rattle.ck_array.proofs.Elsewhere.{AreElsewhere, below_all}
-use Rattle.ck_array.proofs.EventSteps.{AreQuiet}
 use Rattle.ck_array.proofs.Polled.{dispatched, log, events, ready_given}
-use Rattle.ck_array.proofs.Polls.{call_quiet}
-use Rattle.ck_array.proofs.Waits.{IsLow, low_call, low_round}
 use Rattle.ck_array.proofs.giving.give_all.Goals as goal
 
 -- the answers that wait after a barrier, and the arena

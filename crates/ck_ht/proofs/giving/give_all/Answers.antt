@@ -10,6 +10,8 @@ use Rattle.ck_epoch.specs.Lists.{by_list, homes}
 use Rattle.ck_epoch.specs.Rounds.{Rounds}
 use Rattle.ck_epoch.specs.State.{Origin, Token, barrier, queue, records_of, state}
 use Rattle.ck_signal.specs.declared.signals.Signals.{Signals}
+use Rattle.ck_events.proofs.Epochs.{IsLow, low_call, low_round}
+use Rattle.ck_events.proofs.Steps.{call_quiet}
 use Rattle.ck_htlaw.specs.declared.client.HtClient.{HtClient}
 use Rattle.ck_htlaw.specs.Client.{home_of}
 use Rattle.ck_htlaw.specs.Known.{knows}
@@ -26,9 +28,8 @@ use Rattle.ck_arena.proofs.Giving.{listed}
 use Rattle.ck_ht.specs.Ends.{IsWriterReady}
 use Rattle.ck_ht.specs.Events.{hand_events}
 use Rattle.ck_ht.proofs.Regions.{after_table_dispatch}
-use Rattle.ck_ht.proofs.Staying.{ready_given, ready_outside}
-use Rattle.ck_ht.proofs.UpdateEvents.{call_quiet, updates_are_events}
-use Rattle.ck_ht.proofs.Waits.{IsLow, low_call, low_round, outside_below}
+use Rattle.ck_ht.proofs.EventSteps.{updates_are_events}
+use Rattle.ck_ht.proofs.Staying.{outside_below, ready_given, ready_outside}
 use Rattle.ck_ht.proofs.giving.give_all.Goals as goal
 
 -- the answers that wait after a barrier, and the arena

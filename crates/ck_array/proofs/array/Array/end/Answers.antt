@@ -1,27 +1,16 @@
 use Rattle.std.proofs.Common.{ap, subst, arith}
 use Rattle.ck_run.specs.Tokens.{Table}
 use Rattle.ck_epoch.specs.declared.about.About.{About}
-use Rattle.ck_signal.specs.declared.signals.Signals.{Signals}
-use Rattle.ck_arraylaw.specs.declared.client.ArrayClient.{ArrayClient}
 use Rattle.ck_epoch.specs.State.{base_of}
 use Rattle.ck_epoch.specs.Calls.{StepsBelow}
+use Rattle.ck_signal.specs.declared.signals.Signals.{Signals}
+use Rattle.ck_arraylaw.specs.declared.client.ArrayClient.{ArrayClient}
 use Rattle.ck_array.proofs.SignalSteps.{sections_still}
 use Rattle.ck_array.proofs.array.Array.end.Goals as goal
 
-pub returns-clause-ready : goal.returns-clause-ready
-returns-clause-ready c =
-    let o = c.args.self.now.origin in let p = c.args.pass.now in let q = c.end.new.pass in
-    let below = subst (λ (t : Table (About (Signals ArrayClient))). StepsBelow (base_of t.origin) p.token q.token) c.self.view_is c.end.ensures.below in
-    (sections_still o p q c.requires.ready below (ap (λ q. q.tally) c.end.ensures.step) (let n = ap (λ q. q.calls) c.end.ensures.step in omega arith)).0
-
-pub returns-clause-answers : goal.returns-clause-answers
-returns-clause-answers c =
-    let o = c.args.self.now.origin in let p = c.args.pass.now in let q = c.end.new.pass in
-    let below = subst (λ (t : Table (About (Signals ArrayClient))). StepsBelow (base_of t.origin) p.token q.token) c.self.view_is c.end.ensures.below in
-    (sections_still o p q c.requires.ready below (ap (λ q. q.tally) c.end.ensures.step) (let n = ap (λ q. q.calls) c.end.ensures.step in omega arith)).1
-
-pub returns-clause-events : goal.returns-clause-events
-returns-clause-events c =
-    let o = c.args.self.now.origin in let p = c.args.pass.now in let q = c.end.new.pass in
-    let below = subst (λ (t : Table (About (Signals ArrayClient))). StepsBelow (base_of t.origin) p.token q.token) c.self.view_is c.end.ensures.below in
-    (sections_still o p q c.requires.ready below (ap (λ q. q.tally) c.end.ensures.step) (let n = ap (λ q. q.calls) c.end.ensures.step in omega arith)).2
+pub returns : goal.returns
+returns c =
+    let p = c.args.pass.now in let q = c.end.new.pass in let e = c.end.ensures in
+    let below = subst (λ (t : Table (About (Signals ArrayClient))). StepsBelow (base_of t.origin) p.token q.token) c.self.view_is e.below in
+    let s = sections_still c.args.self.now.origin p q c.requires.ready below (ap (λ q. q.tally) e.step) (let n = ap (λ q. q.calls) e.step in omega arith) in
+    record { step = e.step; answers = s.1; events = s.2; ready = s.0; depth = e.depth }

@@ -4,7 +4,8 @@ use Rattle.ck_epoch.specs.State.{Origin, Token}
 use Rattle.ck_signal.specs.declared.signals.Signals.{Signals}
 use Rattle.ck_arraylaw.specs.declared.client.ArrayClient.{ArrayClient}
 use Rattle.ck_array.specs.Ends.{IsWriterReady}
-use Rattle.ck_array.proofs.AtOpening.{all_made, all_ready, none_done, opened_ready}
+use Rattle.ck_events.proofs.Opening.{all_made}
+use Rattle.ck_array.proofs.AtOpening.{all_ready, none_done, opened_ready}
 use Rattle.ck_array.proofs.array.Array.new.Goals as goal
 
 pub invariant_of-result-2 : goal.invariant_of-result-2

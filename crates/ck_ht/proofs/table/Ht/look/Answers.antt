@@ -9,7 +9,8 @@ use Rattle.ck_htlaw.specs.Law.{retries_of}
 use Rattle.ck_htlaw.specs.Reached.{with_signals}
 use Rattle.ck_htread.specs.Answered.{HasAnswered}
 use Rattle.ck_htread.specs.Reading.{IsBetweenLooks, Looks, look_result, answered_by, retries_by}
-use Rattle.ck_ht.specs.Events.{pass_events, answer_events}
+use Rattle.ck_events.specs.Events.{answer_events}
+use Rattle.ck_ht.specs.Events.{pass_events}
 use Rattle.ck_ht.proofs.EventSteps.{look_events}
 use Rattle.ck_ht.proofs.table.Ht.look.Goals as goal
 

@@ -1,38 +1,21 @@
-use Rattle.std.proofs.Common.{◌≡◌, [], ◌∷◌, ap, sym, subst, ◌∙◌}
-use Rattle.ck_run.specs.Tokens.{Table, adding}
-use Rattle.ck_epoch.specs.declared.about.About.{About}
-use Rattle.ck_signal.specs.declared.signals.Signals.{Signals}
-use Rattle.ck_htlaw.specs.declared.client.HtClient.{HtClient}
-use Rattle.ck_htlaw.specs.Client.{table}
+use Rattle.std.proofs.Common.{◌≡◌, [], ◌∷◌, length, ap, sym, ◌∙◌}
+use Rattle.ck_run.specs.Tokens.{adding}
 use Rattle.ck_epoch.specs.Calls.{rec_of}
 use Rattle.ck_signal.specs.Words.{notes}
-use Rattle.ck_signal.specs.Told.{answered_word_of, pass_answers}
+use Rattle.ck_signal.specs.Told.{answered_word_of}
+use Rattle.ck_htlaw.specs.Client.{table}
+use Rattle.ck_htlaw.specs.Known.{knows}
+use Rattle.ck_htlaw.specs.Reached.{with_signals}
 use Rattle.ck_ht.proofs.SignalSteps.{answers_counted, note_still}
 use Rattle.ck_ht.proofs.table.Ht.note.Goals as goal
 
 pub note-requires-clause-tally : goal.note-requires-clause-tally
 note-requires-clause-tally c = answers_counted c.args.self.now.origin c.args.pass.now (ap (λ w. w.origin) c.requires.table) c.requires.ready
 
-pub returns-clause-step : goal.returns-clause-step
-returns-clause-step c =
-    let p = c.args.pass.now in
-    let counted = answers_counted c.args.self.now.origin p (ap (λ w. w.origin) c.requires.table) c.requires.ready in
-    c.note.ensures.step ∙ (λ i. record p { token = adding p.token (notes (answered_word_of table (c.self.view_is i).origin (rec_of p.token)) ((sym counted ∙ c.requires.ready.tally) i) ∷ []) })
-
-pub returns-clause-ready : goal.returns-clause-ready
-returns-clause-ready c =
-    let p = c.args.pass.now in let q = c.note.new.pass in
-    (note_still c.args.self.now.origin p q (rec_of p.token) (pass_answers table p.token) c.requires.ready
-    (subst (λ (t : Table (About (Signals HtClient))). q ≡ record p { token = adding p.token (notes (answered_word_of table t.origin (rec_of p.token)) (pass_answers table p.token) ∷ []) }) c.self.view_is c.note.ensures.step)).0
-
-pub returns-clause-totals : goal.returns-clause-totals
-returns-clause-totals c =
-    let p = c.args.pass.now in let q = c.note.new.pass in
-    (note_still c.args.self.now.origin p q (rec_of p.token) (pass_answers table p.token) c.requires.ready
-    (subst (λ (t : Table (About (Signals HtClient))). q ≡ record p { token = adding p.token (notes (answered_word_of table t.origin (rec_of p.token)) (pass_answers table p.token) ∷ []) }) c.self.view_is c.note.ensures.step)).1
-
-pub returns-clause-events : goal.returns-clause-events
-returns-clause-events c =
-    let p = c.args.pass.now in let q = c.note.new.pass in
-    (note_still c.args.self.now.origin p q (rec_of p.token) (pass_answers table p.token) c.requires.ready
-    (subst (λ (t : Table (About (Signals HtClient))). q ≡ record p { token = adding p.token (notes (answered_word_of table t.origin (rec_of p.token)) (pass_answers table p.token) ∷ []) }) c.self.view_is c.note.ensures.step)).2
+pub returns : goal.returns
+returns c =
+    let o = c.args.self.now.origin in let p = c.args.pass.now in let q = c.note.new.pass in let n = length (knows with_signals o p.token).looks in
+    let counted = answers_counted o p (ap (λ w. w.origin) c.requires.table) c.requires.ready in
+    let step : q ≡ record p { token = adding p.token (notes (answered_word_of table o (rec_of p.token)) n ∷ []) } = c.note.ensures.step ∙ (λ i. record p { token = adding p.token (notes (answered_word_of table (c.self.view_is i).origin (rec_of p.token)) ((sym counted ∙ c.requires.ready.tally) i) ∷ []) }) in
+    let s = note_still o p q (rec_of p.token) n c.requires.ready step in
+    record { step = step; totals = s.1; events = s.2; ready = s.0; depth = c.note.ensures.depth }

@@ -17,7 +17,8 @@ use Rattle.ck_htwrite.specs.Writes.{counters_in}
 use Rattle.ck_ht.specs.Ends.{IsWriterReady}
 use Rattle.ck_htwrite.specs.State.{IsShaped}
 use Rattle.ck_htwrite.proofs.Opened.{opened_ready}
-use Rattle.ck_ht.proofs.AtOpening.{all_made, all_ready, none_done}
+use Rattle.ck_events.proofs.Opening.{all_made}
+use Rattle.ck_ht.proofs.AtOpening.{all_ready, none_done}
 use Rattle.ck_ht.proofs.Keyed.{none_keyed}
 use Rattle.ck_ht.proofs.Settling.{is_within}
 use Rattle.ck_ht.proofs.Sizes.{few_counters, half_at_opening}

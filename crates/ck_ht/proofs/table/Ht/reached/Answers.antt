@@ -1,32 +1,16 @@
-use Rattle.std.proofs.Common.{◌≡◌, ℕ, ◌<◌, ◌≤◌, [], ◌∷◌, subst}
-use Rattle.std.specs.Prelude.{MatchResult}
-use Rattle.ck_run.specs.Tokens.{Table, adding}
+use Rattle.std.proofs.Common.{subst}
+use Rattle.ck_run.specs.Tokens.{Table}
 use Rattle.ck_epoch.specs.declared.about.About.{About}
 use Rattle.ck_signal.specs.declared.signals.Signals.{Signals}
+use Rattle.ck_events.proofs.Steps.{Reaches}
 use Rattle.ck_htlaw.specs.declared.client.HtClient.{HtClient}
 use Rattle.ck_htlaw.specs.Client.{table}
-use Rattle.ck_signal.specs.Words.{reaches}
-use Rattle.ck_signal.specs.Told.{applied_word_of}
 use Rattle.ck_ht.proofs.SignalSteps.{reached_still}
 use Rattle.ck_ht.proofs.table.Ht.reached.Goals as goal
 
-pub returns-clause-ready : goal.returns-clause-ready
-returns-clause-ready c =
-    let p = c.args.pass.now in let q = c.reached.new.pass in let n = c.args.n in
-    (reached_still c.args.self.now.origin p q n c.reached.result c.requires.ready
-    (subst (λ (t : Table (About (Signals HtClient))). MatchResult c.reached.result (λ _. (found : ℕ) × (n ≤ found) × (q ≡ record p { token = adding p.token (reaches (applied_word_of table t.origin) n found ∷ []) })) (λ found. (found < n) × (q ≡ record p { token = adding p.token (reaches (applied_word_of table t.origin) n found ∷ []) })))
-    c.self.view_is c.reached.ensures.step)).0
-
-pub returns-clause-totals : goal.returns-clause-totals
-returns-clause-totals c =
-    let p = c.args.pass.now in let q = c.reached.new.pass in let n = c.args.n in
-    (reached_still c.args.self.now.origin p q n c.reached.result c.requires.ready
-    (subst (λ (t : Table (About (Signals HtClient))). MatchResult c.reached.result (λ _. (found : ℕ) × (n ≤ found) × (q ≡ record p { token = adding p.token (reaches (applied_word_of table t.origin) n found ∷ []) })) (λ found. (found < n) × (q ≡ record p { token = adding p.token (reaches (applied_word_of table t.origin) n found ∷ []) })))
-    c.self.view_is c.reached.ensures.step)).1
-
-pub returns-clause-events : goal.returns-clause-events
-returns-clause-events c =
-    let p = c.args.pass.now in let q = c.reached.new.pass in let n = c.args.n in
-    (reached_still c.args.self.now.origin p q n c.reached.result c.requires.ready
-    (subst (λ (t : Table (About (Signals HtClient))). MatchResult c.reached.result (λ _. (found : ℕ) × (n ≤ found) × (q ≡ record p { token = adding p.token (reaches (applied_word_of table t.origin) n found ∷ []) })) (λ found. (found < n) × (q ≡ record p { token = adding p.token (reaches (applied_word_of table t.origin) n found ∷ []) })))
-    c.self.view_is c.reached.ensures.step)).2
+pub returns : goal.returns
+returns c =
+    let p = c.args.pass.now in let q = c.reached.new.pass in let n = c.args.n in let result = c.reached.result in
+    let step = subst (λ (t : Table (About (Signals HtClient))). Reaches table t.origin p q n result) c.self.view_is c.reached.ensures.step in
+    let s = reached_still c.args.self.now.origin p q n result c.requires.ready step in
+    record { step = step; totals = s.1; events = s.2; ready = s.0; depth = c.reached.ensures.depth }

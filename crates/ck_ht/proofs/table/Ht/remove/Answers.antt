@@ -27,7 +27,8 @@ use Rattle.ck_htwrite.specs.Writes.{WriterIs, counters_in, opened}
 use Rattle.ck_ht.specs.Ends.{HtWriter, IsWriterReady}
 use Rattle.ck_ht.specs.Events.{hand_events}
 use Rattle.ck_ht.proofs.Keyed.{keyed_next}
-use Rattle.ck_ht.proofs.UpdateEvents.{none_named, opened_quiet, updates_are_events}
+use Rattle.ck_events.proofs.Steps.{none_named}
+use Rattle.ck_ht.proofs.EventSteps.{opened_quiet, updates_are_events}
 use Rattle.ck_ht.proofs.table.Ht.remove.Goals as goal
 
 pub remove-requires-clause-ready : goal.remove-requires-clause-ready

@@ -4,7 +4,6 @@ use Rattle.ck_run.specs.Run.{entry}
 use Rattle.ck_run.specs.Tokens.{Table, adding}
 use Rattle.ck_epoch.specs.declared.about.About.{About}
 use Rattle.ck_epoch.specs.State.{Origin, state}
-use Rattle.ck_history.specs.declared.edit.Edit.TheVariants.{Drop}
 use Rattle.ck_signal.specs.declared.signals.Signals.{Signals}
 use Rattle.ck_arraylaw.specs.declared.client.ArrayClient.{ArrayClient}
 use Rattle.ck_arraylaw.specs.Host.{base_word}
@@ -13,7 +12,7 @@ use Rattle.ck_array.specs.Edited.{IsEdited}
 use Rattle.ck_array.specs.Ends.{ArrayWriter, IsWriterReady}
 use Rattle.ck_array.specs.Writes.{opens_of}
 use Rattle.ck_array.proofs.Results.{origin_in, origin_out}
-use Rattle.ck_array.proofs.array.Array.drop_one.Goals as goal
+use Rattle.ck_array.proofs.array.Array.change.Goals as goal
 
 pub edit-requires-clause-ready : goal.edit-requires-clause-ready
 edit-requires-clause-ready g c = subst (λ (o : Origin (Signals ArrayClient)). IsWriterReady o c.w.inside.writer c.w.inside.state) (origin_in c.self.inside.domain c.args.self.now (record { writer = c.w.inside.writer; state = c.w.inside.state }) c.args.w.now c.self.view_is c.w.view_is c.requires.table) c.w.invariant
@@ -25,14 +24,14 @@ invariant_of-w g c = subst (λ (o : Origin (Signals ArrayClient)). IsWriterReady
 pub returns : goal.returns
 returns g c =
     let F = g.row.F.Denot in let v = c.edit.new.writer in let e = c.edit.ensures in let now = c.args.w.now in
-    let x = subst (λ (x : Table (About (Signals ArrayClient)) × ArrayWriter F). IsEdited x.0.origin x.1.writer x.1.state (Drop c.args.v) c.edit.result v c.edit.new.state) (λ i. (c.self.view_is i, c.w.view_is i)) e.done in
+    let x = subst (λ (x : Table (About (Signals ArrayClient)) × ArrayWriter F). IsEdited x.0.origin x.1.writer x.1.state c.args.e c.edit.result v c.edit.new.state) (λ i. (c.self.view_is i, c.w.view_is i)) e.done in
     let calls : v.calls ≡ now.writer.calls + 1 = e.calls ∙ ap (λ (y : ArrayWriter F). y.writer.calls + 1) c.w.view_is in
     record {
       same = x.same ∙ (λ i. record now.writer { token = v.token; calls = calls i; tally = now.writer.tally + 1 });
       table = x.same_table;
       reply = x.reply_is;
       log = x.log;
-      steps = subst (λ (x : Table (About (Signals ArrayClient)) × ArrayWriter F). (root : ℕ) × (v.token ≡ adding x.1.writer.token (entry (opens_of (Drop c.args.v)) (Load (base_word with_signals x.0.origin) root) ∷ []))) (λ i. (c.self.view_is i, c.w.view_is i)) e.steps;
+      steps = subst (λ (x : Table (About (Signals ArrayClient)) × ArrayWriter F). (root : ℕ) × (v.token ≡ adding x.1.writer.token (entry (opens_of c.args.e) (Load (base_word with_signals x.0.origin) root) ∷ []))) (λ i. (c.self.view_is i, c.w.view_is i)) e.steps;
       events = x.events;
       pending = e.items ∙ ap (λ (y : ArrayWriter F). (state y.writer.token).pending) c.w.view_is;
     }
