@@ -85,7 +85,7 @@ struct reader { pthread_t thread; int number; const uint64_t *keys; uint64_t rou
 static void *read_keys(void *at)
 {
 	struct reader *r = at;
-	uint64_t start = now();
+	uint64_t start = now(), looks = 0, found = 0;
 	for (uint64_t i = 0; i < 1024 * r->rounds; i++) {
 		if (i % 1024 == 0 && __atomic_load_n(&applied.n, __ATOMIC_SEQ_CST) >= 1) break;
 		uint64_t key = r->keys[i % PICKS];
@@ -93,11 +93,13 @@ static void *read_keys(void *at)
 		ck_ht_entry_t e;
 		ck_ht_entry_key_set_direct(&e, key);
 		ck_epoch_begin(&readers[r->number].record, NULL);
-		r->found += ck_ht_get_spmc(&table, h, &e);
+		found += ck_ht_get_spmc(&table, h, &e);
 		ck_epoch_end(&readers[r->number].record, NULL);
-		r->looks++;
+		looks++;
 	}
 	r->ns = now() - start;
+	r->looks = looks;
+	r->found = found;
 	return NULL;
 }
 
