@@ -7,6 +7,8 @@ pub mod part;
 mod table;
 #[cfg(test)]
 mod tests;
+#[cfg(test)]
+mod thread_tests;
 mod updating;
 
 pub use ck_htlaw::HtClient;

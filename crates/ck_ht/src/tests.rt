@@ -45,7 +45,7 @@ fn a_table_that_is_closed_at_once_has_its_opening_root(rt: HostRuntime) -> Resul
 }
 
 // Makes the update.
-fn make<F: Fn(Item) -> Back>(
+pub(crate) fn make<F: Fn(Item) -> Back>(
     ht: &Ht,
     w: &mut HtWriter<F>,
     update: Update<Key>,
