@@ -157,7 +157,7 @@ make_empty() {
 build() {
     command -v rt >/dev/null || give_up "cannot build the program ($1): the command rt is not on the PATH"
     mkdir -p "$top/out" 2>/dev/null && make_empty "$log" && make_empty "$top/out/begun" || give_up "cannot build the program ($1): cannot write to $log"
-    say "building the program: $1. This takes some minutes; the prover's lines go to $log"
+    say "building the program: $1. This takes a while; the prover's lines go to $log"
     begun=$(seconds)
     all=$(crates | wc -l)
     number=0
