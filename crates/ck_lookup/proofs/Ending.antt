@@ -216,14 +216,14 @@ module _ {C Q : Type 0} (kind : Kind C Q) where
   complete : SaysOneThing kind → (o : Outside) (ns : List (List ℕ)) (outcome : Outcome) (u : List ℕ) (qs : List (List ℕ)) → MayEndWith kind o ns outcome → IsClear kind o ns u qs → IsDoneOrNoMemory outcome
   complete one o ns Done u qs ends clear = inl refl
   complete one o ns Usage u qs ends clear = absurd ends
-  complete one o ns (ReadFault file) u qs ends clear = absurd (clear.read ends.0.name ends.0.rose)
+  complete one o ns (ReadFault file) u qs ends clear = absurd (clear.no_read_fault ends.0.name ends.0.rose)
   complete one o ns (TooLarge file) u qs ends clear = absurd (none_too_large o.held ns (u ∷ qs) file clear.told clear.accepted.within ends.1)
   complete one o ns (BadScript file line why) u qs ends clear =
       let bad = ends.1 in
       let same = told_files o.held ns u qs bad.update_file bad.query_files bad.read clear.told in
       let first = subst (λ q. IsBadScript kind u q file (record { line = line; why = why })) same.1 (subst (λ v. IsBadScript kind v bad.query_files file (record { line = line; why = why })) same.0 bad.first) in
       absurd (no_bad_script kind one u qs clear.accepted.ups clear.accepted.asks file (record { line = line; why = why }) clear.accepted.said first)
-  complete one o ns WriteFault u qs ends clear = absurd (clear.written ends.1)
+  complete one o ns WriteFault u qs ends clear = absurd (clear.no_write_fault ends.1)
   complete one o ns (BadReport line) u qs ends clear = absurd ends
   complete one o ns Illegal u qs ends clear = absurd ends
   complete one o ns NoMemory u qs ends clear = inr refl

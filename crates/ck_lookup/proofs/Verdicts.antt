@@ -220,8 +220,8 @@ module _ (o : Outside) (ns : List (List ℕ)) (u : List ℕ) (qs : List (List �
         (λ could. absurd (true≢false (sym (told_legal verdict.0 (here _ verdict.1) could) ∙ verdict.2)), λ never. inl refl)
     complete_judged NoMemory ends = (λ could. inr refl, λ never. inr refl)
     complete_judged Usage ends = absurd ends
-    complete_judged WriteFault ends = absurd (clear.written ends.1)
-    complete_judged (ReadFault file) ends = absurd (clear.read ends.0.name ends.0.rose)
+    complete_judged WriteFault ends = absurd (clear.no_write_fault ends.1)
+    complete_judged (ReadFault file) ends = absurd (clear.no_read_fault ends.0.name ends.0.rose)
     complete_judged (TooLarge file) ends = absurd (none_too_large o.held ns (u ∷ (qs ++ r ∷ [])) file clear.told clear.within ends.1)
     complete_judged (BadScript file line why) ends = absurd (no_bad_script table_kind one_table u qs clear.ups clear.asks file (record { line = line; why = why }) clear.said (here _ ends.1))
     complete_judged (BadReport line) ends = let bad = here _ ends.1 in absurd (bad.no_report clear.report)

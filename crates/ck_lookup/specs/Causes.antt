@@ -150,7 +150,7 @@ outside held shelf_before shelf_after taken_before taken_after sink_before sink_
 }
 
 module _ (o : Outside) (names : List (List ℕ)) where
-  -- no fetch failed: no count of the shelf's faults rose
+  -- no fetch failed: no count of the shelf's faults changed
   abbrev pub FetchedAll : Type 0
   FetchedAll = o.shelf_after ≡ o.shelf_before
 
@@ -167,7 +167,8 @@ module _ {C Q : Type 0} (kind : Kind C Q) (o : Outside) (names : List (List ℕ)
   abbrev pub PutFront : Type 0
   PutFront = (text : List ℕ) × HasReport kind o.held names text × AppendsPrefix o.taken_before o.taken_after text
 
-  -- a run of these files may end with the outcome: that has its cause, and none of the refusals that come before it
+  -- A run of these files may end with the outcome: that has its cause, and none of the refusals that come before it. Want of memory may come
+  -- at any time
   abbrev pub MayEndWith : Outcome → Type 0
   MayEndWith Done = FetchedAll o names × PutReport
   MayEndWith Usage = ⊥
@@ -183,8 +184,8 @@ module _ {C Q : Type 0} (kind : Kind C Q) (o : Outside) (names : List (List ℕ)
   pub record IsClear (update_file : List ℕ) (query_files : List (List ℕ)) : Type 0 where
     pub told : Tells o.held names update_file query_files
     pub accepted : AreAccepted kind update_file query_files
-    pub read : (name : List ℕ) → Rose (o.shelf_before name) (o.shelf_after name) → ⊥
-    pub written : Rose o.sink_before o.sink_after → ⊥
+    pub no_read_fault : (name : List ℕ) → Rose (o.shelf_before name) (o.shelf_after name) → ⊥
+    pub no_write_fault : Rose o.sink_before o.sink_after → ⊥
 
 -- the outcome is a whole report, or want of memory
 abbrev pub IsDoneOrNoMemory : Outcome → Type 0

@@ -83,7 +83,8 @@ module _ (held : List ℕ → Option (List ℕ)) (names : List (List ℕ)) where
   HasBadScriptBeside file fault = HasFiles (λ update_file query_files report_file. IsBadScript table_kind update_file query_files file fault)
 
 module _ (o : Outside) (names : List (List ℕ)) where
-  -- how a run of these files may end, with the cause of each outcome, and with none of the refusals that come before it
+  -- How a run of these files may end, with the cause of each outcome, and with none of the refusals that come before it. Want of memory may come
+  -- at any time
   abbrev pub EndsJudged : Outcome → Type 0
   EndsJudged Done = FetchedAll o names × ((verdict : Verdict) × HasVerdict o.held names verdict × (is_legal verdict ≡ true) × (o.taken_after ≡ appended o.taken_before (verdict_text verdict)))
   EndsJudged Illegal = FetchedAll o names × ((verdict : Verdict) × HasVerdict o.held names verdict × (is_legal verdict ≡ false) × (o.taken_after ≡ appended o.taken_before (verdict_text verdict)))
@@ -104,8 +105,8 @@ module _ (o : Outside) (names : List (List ℕ)) where
     pub asks : List (List (Numbered (AskLine ℕ)))
     pub said : AreSaid table_kind update_file query_files ups asks
     pub report : IsReport IsKey decimal nat_cmp report_file
-    pub read : (name : List ℕ) → Rose (o.shelf_before name) (o.shelf_after name) → ⊥
-    pub written : Rose o.sink_before o.sink_after → ⊥
+    pub no_read_fault : (name : List ℕ) → Rose (o.shelf_before name) (o.shelf_after name) → ⊥
+    pub no_write_fault : Rose o.sink_before o.sink_after → ⊥
 
 -- the outcome of a report that isn't legal, or want of memory
 abbrev pub IsIllegalOrNoMemory : Outcome → Type 0

@@ -18,7 +18,7 @@ pub record Sort (L : Type 0) : Type 1 where
 pub record Kind (C Q : Type 0) : Type 1 where
   pub updates : Sort (UpLine C)
   pub queries : Sort (AskLine Q)
-  -- the first line of query files that there are too many of
+  -- the first query that is one too many, over the query files in order
   pub surplus : List (List (Numbered (AskLine Q))) → Option RangeFault
   -- what replies to the updates, answers the queries, and is left after all updates
   pub Reply : Type 0

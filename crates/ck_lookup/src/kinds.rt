@@ -38,7 +38,7 @@ pub trait RunKind: Sync {
         ensures waits { IfOk result (λ x. x.1 ≡ list_any (λ l. is_wait l.what) x.0.items) }
         ensures fault { IfErr result (λ error. IfFault error (IsFirstFault kind.queries.is_line kind.queries.words kind.queries.is_fault bytes.now)) };
 
-    /// The first line of the query files that there are too many of.
+    /// The first query that is one too many, over the query files in order.
     fn surplus(asks: &[Vec<Numbered<AskLine<Self::Ask>>>]) -> Option<RangeFault>
         ensures { result ≡ kind.surplus (map (λ file. file.items) asks.now) };
 }

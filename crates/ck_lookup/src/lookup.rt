@@ -36,13 +36,13 @@ pub fn run<R: Threads + Wait + Sync, S: Shelf, K: Sink, G: Gate + Sync>(
     sink: &mut K,
     gate: &G,
 ) -> Outcome
-    // `Usage` exactly where the words are not of the form, unless memory is wanting; then nothing was put.
+    // `Usage` exactly where the words are not of the form, unless memory is wanting. Nothing is put for such words.
     ensures usage { result ≡ Usage → command_of (map string_bytes words.now) ≡ None }
     ensures unasked { command_of (map string_bytes words.now) ≡ None
         → ((result ≡ Usage) ⊎ (result ≡ NoMemory)) × (K.taken sink.new ≡ K.taken sink.old) }
 
     // The headline. Where the run is done, and the shelf tells the bytes of the files, nothing of these bytes is refused,
-    // and what the sink took in this run is a report of them.
+    // and what the sink took in this run, where it tells that, is a report of them.
     ensures report { (c : RunCommand) (update_file : List ℕ) (query_files : List (List ℕ))
         → command_of (map string_bytes words.now) ≡ Some (Run c)
         → Tells (S.held shelf.old) (names c) update_file query_files
@@ -50,8 +50,8 @@ pub fn run<R: Threads + Wait + Sync, S: Shelf, K: Sink, G: Gate + Sync>(
         → AreAccepted (kind_of c.kind).kind update_file query_files
         × ((text : List ℕ) × IsReportOf (kind_of c.kind).kind update_file query_files text × (K.taken sink.new ≡ appended (K.taken sink.old) text)) }
 
-    // Every outcome has its cause, and none of the refusals that come before it. Where the shelf tells no bytes, there are
-    // bytes for each file of which all this holds.
+    // Every outcome but `NoMemory`, which may come at any time, has its cause, and none of the refusals that come before
+    // it. Where the shelf tells no bytes, there are bytes for each file of which all this holds.
     ensures ends { (c : RunCommand) → command_of (map string_bytes words.now) ≡ Some (Run c)
         → MayEndWith (kind_of c.kind).kind (outside (S.held shelf.old) (S.faults shelf.old) (S.faults shelf.new) (K.taken sink.old) (K.taken sink.new) (K.faults sink.old) (K.faults sink.new)) (names c) result }
 
@@ -77,7 +77,8 @@ pub fn run<R: Threads + Wait + Sync, S: Shelf, K: Sink, G: Gate + Sync>(
         → result ≡ Done
         → IsLegalOf update_file query_files report_file }
 
-    // Every outcome of a judgment has its cause, and none of the refusals that come before it.
+    // Every outcome of a judgment but `NoMemory`, which may come at any time, has its cause, and none of the refusals that
+    // come before it.
     ensures judged { (c : JudgeCommand) → command_of (map string_bytes words.now) ≡ Some (Judge c)
         → EndsJudged (outside (S.held shelf.old) (S.faults shelf.old) (S.faults shelf.new) (K.taken sink.old) (K.taken sink.new) (K.faults sink.old) (K.faults sink.new)) (judged_names c) result }
 

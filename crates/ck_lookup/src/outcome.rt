@@ -13,8 +13,9 @@ pub enum Outcome {
     Usage,
     /// A file couldn't be read.
     ReadFault { file: u64 },
-    /// The first line, by file and then by line, that is outside the grammar; where there is none, the first that asks
-    /// for what can't come.
+    /// The first line, by file and then by line, that is outside the grammar; where there is none, the line that the checks
+    /// refuse: the first that asks for more than there is, else the first query too many of a list, else the first `hold`
+    /// that would wait for ever.
     BadScript { file: u64, line: u64, why: Why },
     /// A file past a limit.
     TooLarge { file: u64 },
