@@ -2,7 +2,8 @@ pub mod Loads
 pub mod SlotLoads
 pub mod Scanning
 pub mod Answering
+pub mod Telling
 pub mod Placing
 pub mod RootsHold
-pub mod Telling
+pub mod Alone
 pub mod WholeLook

@@ -8,27 +8,23 @@ use mathlib.Core.Option.{some}
 use lib.ListN.{get_elem?}
 use Rattle.ck_run.specs.declared.account.Entry.{Entry}
 use Rattle.ck_run.specs.Run.{Run, account}
-use Rattle.ck_run.specs.Machine.{state_after}
 use Rattle.ck_run.proofs.Runs.{account-append}
 use Rattle.ck_run.proofs.Law.{state-append}
 use Rattle.ck_history.specs.declared.log.LogEntry.{LogEntry}
 use Rattle.ck_history.specs.declared.update.Update.{Update}
-use Rattle.ck_history.specs.Map.{find, after, after_from}
+use Rattle.ck_history.specs.Map.{Map, find, after, after_from}
 use Rattle.ck_epoch.specs.State.{Origin}
 use Rattle.ck_events.specs.Answered.{IsAnsweredCall}
 use Rattle.ck_events.proofs.Places.{IsPlaced, have_places}
 use Rattle.ck_htlaw.specs.Actions.{most}
 use Rattle.ck_htlaw.specs.Table.{Layout}
 use Rattle.ck_htlaw.specs.Linearized.{updates}
-use Rattle.ck_htlaw.specs.Client.{Answers, answers_next, answers_after, looks_next}
+use Rattle.ck_htlaw.specs.Client.{Answers, answers_next, answers_after}
 use Rattle.ck_htlaw.specs.Host.{Host, lies}
-use Rattle.ck_htlaw.specs.Law.{TableLaw, IsTableRun, updates_in, linearized, until}
+use Rattle.ck_htlaw.specs.Law.{TableLaw, IsTableRun, updates_in, linearized, map_in, until}
 use Rattle.ck_htread.specs.Answered.{looks_in, IsOut, HasPlace, PlacesLaw}
 use Rattle.ck_htread.proofs.Answering.{answered_look}
-
-looks_grow : (l : Layout) (a : Answers) (es : List Entry) → length a.looks ≤ length (state_after (answers_next l) a es).looks
-looks_grow l a [] = omega arith
-looks_grow l a (e ∷ es) = let h = looks_grow l (answers_next l a e) es in let n = length-append a.looks (looks_next l a.local e) in omega arith
+use Rattle.ck_htread.proofs.Telling.{looks_more}
 
 module _ {D : Type 0} (host : Host D) (origin : Origin D) (law : TableLaw host origin) where
   abbrev True : Run → Type 0
@@ -40,19 +36,34 @@ module _ {D : Type 0} (host : Host D) (origin : Origin D) (law : TableLaw host o
   abbrev many : Run → ℕ
   many run = linearized host origin run
 
-  -- as a run goes on, no update is taken back, nor an answer
+  -- as a run goes on, no update is taken back
   pub mono : (a b rest : Run) → True (a ++ (b ++ rest)) → many a ≤ many (a ++ b)
   mono a b rest t = let g = law.grows a b rest t in let n = ap length g.1 ∙ length-append (updates_in host origin a) g.0 in omega arith
+
+  -- the map after as many updates as had taken place at a moment is the map of that moment
+  pub map_then : (past rest : Run) → True (past ++ rest) → after nat_cmp most (updates (updates_in host origin (past ++ rest))) (many past) ≡ map_in host origin past
+  map_then past rest t =
+      let f : LogEntry ℕ → Update ℕ = λ e. e.update in
+      let us = updates_in host origin past in
+      let g = law.grows past rest [] (subst (λ (b : Run). True (past ++ b)) (sym (append-nil rest)) t) in
+      let cut : take (many past) (updates (updates_in host origin (past ++ rest))) ≡ updates us =
+      (λ j. take (sym (length-map us f) j) (map f (g.1 j))) ∙ (ap (take (length (map f us))) (map-append f us g.0) ∙ take-append_seam (map f us) (map f g.0)) in
+      ap (after_from nat_cmp most []) cut
 
   module _ (r : ℕ) where
     abbrev looks : Run → List (ℕ × Option ℕ)
     looks run = looks_in host origin run r
 
+    -- answers are only added
+    pub looks_after : (a b : Run) → (more : List (ℕ × Option ℕ)) × (looks (a ++ b) ≡ looks a ++ more)
+    looks_after a b = let m = looks_more l (answers_after l origin.words (suc r) (account (suc r) a)) (account (suc r) b) in (
+      m.0,
+      ap (λ (es : List Entry). (answers_after l origin.words (suc r) es).looks) (account-append (suc r) a b)
+          ∙ (ap (λ (x : Answers). x.looks) (state-append (answers_next l) (answers_after l origin.words (suc r) []) (account (suc r) a) (account (suc r) b)) ∙ m.1),
+    )
+
     rise : (a b : Run) → length (looks a) ≤ length (looks (a ++ b))
-    rise a b = subst (λ (n : ℕ). length (looks a) ≤ n)
-        (sym (ap (λ (es : List Entry). length (answers_after l origin.words (suc r) es).looks) (account-append (suc r) a b)
-        ∙ ap (λ (x : Answers). length x.looks) (state-append (answers_next l) (answers_after l origin.words (suc r) []) (account (suc r) a) (account (suc r) b))))
-        (looks_grow l (answers_after l origin.words (suc r) (account (suc r) a)) (account (suc r) b))
+    rise a b = let m = looks_after a b in let n = ap length m.1 ∙ length-append (looks a) m.0 in omega arith
 
     module _ (run : Run) (t : True run) where
       -- the place of an answer with its key
@@ -85,18 +96,8 @@ module _ {D : Type 0} (host : Host D) (origin : Origin D) (law : TableLaw host o
           most = subst (λ (n : ℕ). n ≤ many end) h.is (subst (λ (b : Run). many now ≤ many b) (sym end_is) (mono now h.moment.behind ((suc r, a.last) ∷ a.rest) (subst True whole t)));
         }
 
-        -- what had taken place then begins what has taken place
-        linearized_then : (us : List (LogEntry ℕ)) × (updates_in host origin run ≡ updates_in host origin now ++ us)
-        linearized_then = let g = law.grows now after_now [] (subst True (whole ∙ ap (λ (b : Run). now ++ b) (sym (append-nil after_now))) t) in (g.0, ap (updates_in host origin) whole ∙ g.1)
-
         gave : find nat_cmp (after nat_cmp most (updates (updates_in host origin run)) p) answer.0 ≡ answer.1
-        gave =
-            let f : LogEntry ℕ → Update ℕ = λ e. e.update in
-            let us = updates_in host origin now in
-            let g = linearized_then in
-            let cut : take p (updates (updates_in host origin run)) ≡ updates us =
-            (λ j. take (sym h.is j) (map f (g.1 j))) ∙ ((λ j. take (sym (length-map us f) j) (map-append f us g.0 j)) ∙ take-append_seam (map f us) (map f g.0)) in
-            ap (λ (vs : List (Update ℕ)). find nat_cmp (after_from nat_cmp most [] vs) answer.0) cut ∙ h.moment.gave
+        gave = (λ j. find nat_cmp (after nat_cmp most (updates (updates_in host origin (whole j))) (sym h.is j)) answer.0) ∙ (ap (λ (m : Map ℕ). find nat_cmp m answer.0) (map_then now after_now (subst True whole t)) ∙ h.moment.gave)
 
       -- each answer has a place
       a_place : (i : ℕ) (answer : ℕ × Option ℕ) → get_elem? (looks_in host origin run r) i ≡ some answer → (p : ℕ) × Has i answer p

@@ -1,13 +1,14 @@
 -- A whole look.
 use Rattle.std.proofs.Common.{◌≡◌, ◌≢◌, ℕ, suc, ◌+◌, ◌-◌, ◌/◌, ◌<◌, ◌≤◌, le_refl, Bool, true, cond, ◌==◌, ◌&&◌, eq-eqb, ne_eqb, List, [], ◌∷◌, ◌++◌, map, length, length-append, append-nil, refl, sym, ap, ◌∙◌, subst, arith}
 use Rattle.std.specs.Prelude.{Option, Some, None}
-use Rattle.std.proofs.lemmas.List.{map-append}
+use Rattle.std.proofs.lemmas.List.{map-append, append_cancel_left}
 use Rattle.std.proofs.lemmas.Nat.{pow_pos}
 use Rattle.ck_run.specs.declared.account.Step.{Step}
 use Rattle.ck_run.specs.declared.account.Step.TheVariants.{Load}
 use Rattle.ck_run.specs.declared.account.Entry.{Entry}
-use Rattle.ck_run.specs.Run.{entry, further, call}
-use Rattle.ck_run.specs.Tokens.{adding, origin}
+use Rattle.ck_run.specs.Run.{entry, further, call, account, replay}
+use Rattle.ck_run.specs.Tokens.{adding, did, origin}
+use Rattle.ck_run.proofs.Runs.{account-append, true_parts}
 use Rattle.ck_run.proofs.Moments.{adding-append}
 use Rattle.ck_epoch.specs.State.{Origin, Token}
 use Rattle.ck_epoch.specs.Ends.{Pass, IsDomainToken}
@@ -16,23 +17,24 @@ use Rattle.ck_epoch.specs.Within.{IsWithin}
 use Rattle.ck_slots.specs.Slots.{Order}
 use Rattle.ck_htlaw.specs.Calls.{look, key_of}
 use Rattle.ck_htlaw.specs.Actions.{action}
-use Rattle.ck_htlaw.specs.Law.{retries_of}
+use Rattle.ck_htlaw.specs.Law.{TableLaw, IsTableRun, look_state_of, retries_of}
 use Rattle.ck_htlaw.specs.Layout.{counters_of, arena, table_words, at_of, log_of, words_of}
 use Rattle.ck_htlaw.specs.Look.{LookState, no_look, at_version}
 use Rattle.ck_htlaw.specs.Table.{Layout, ReaderState, LocalState, reader, is_table_word, MayLookStep, LooksOn, after_own, after_other, after_look_step}
-use Rattle.ck_htlaw.specs.Client.{Answers, table, table_next, look_ends, looks_next}
+use Rattle.ck_htlaw.specs.Client.{Answers, answers_after, table, table_next, look_ends, looks_next}
 use Rattle.ck_history.specs.declared.log.Look.{Look}
 use Rattle.ck_history.specs.declared.log.Look.TheVariants.{Found, Absent, Again}
 use lib.ListN.{get_elem?}
 use Rattle.atomic_table.proofs.Lists.{at_last}
-use Rattle.ck_htread.specs.Answered.{PlacesLaw, HasAnswered}
-use Rattle.ck_htread.proofs.Telling.{has_answered}
+use Rattle.ck_htread.specs.Answered.{IsOut, PlacesLaw, HasAnswered, steps_of, AnswersAlone}
+use Rattle.ck_htread.proofs.Telling.{record_of, has_answered}
+use Rattle.ck_htread.proofs.Alone.{account_of, counter_stands, gives}
 use Rattle.ck_htread.specs.declared.search.Search.{Search}
 use Rattle.ck_htread.specs.Scan.{state_after_scan, scan_loads}
-use Rattle.ck_htread.specs.Reading.{IsInLook, IsDueAt, state_then, LookTotals, totals_of, totals_after_look, totals_after_load, IsInState, IsBetweenLooks, LoadsSlots, LoadsLook, Looks, look_result}
+use Rattle.ck_htread.specs.Reading.{IsInLook, IsDueAt, state_then, LookTotals, totals_of, totals_after_look, totals_after_load, IsInState, IsBetweenLooks, LoadsSlots, LoadsLook, Looks, look_entries, look_result}
 use Rattle.ck_htlaw.specs.Host.{Host, lies}
 use Rattle.ck_htlaw.specs.Known.{knows}
-use Rattle.ck_htlaw.proofs.Tokens.{is_inside, knows_next}
+use Rattle.ck_htlaw.proofs.Tokens.{local_after_all, is_inside, knows_next}
 use Rattle.ck_htread.proofs.Loads.{may_read}
 
 plus_zero : (n : ℕ) → n ≡ n + 0
@@ -169,6 +171,25 @@ module _ {D : Type 0} (host : Host D) (o : Origin D) where
         (has_answered host o law u y h.at.local (length (knows host o t).looks) key x
         (ap (λ (ls : List (ℕ × Option ℕ)). get_elem? ls (length (knows host o t).looks)) (looks_more e ∙ ap (λ (z : Option ℕ). (knows host o t).looks ++ (key, z) ∷ []) same)
         ∙ at_last (knows host o t).looks (key, x) (length (knows host o t).looks) refl))
+
+    -- where no other token's step is among its steps, the counter stands, and its answer is the map's
+    pub alone : PlacesLaw host o → TableLaw host o → (y : ReaderState) → (knows host o t).local ≡ reader y → y.look_state ≡ no_look → (v : Token D) → v ≡ u → (answer : Look) → answer ≡ cond (before == after) (look_result found) (Again before after) → AnswersAlone host o t key answer v
+    alone places law y local between v is_u answer is past run is_true s =
+        let n = record_of host o t y local in
+        let r : ℕ = n.0 in
+        let es : List Entry = look_entries host o key h.root before h.slots after in
+        let same : s.steps ≡ es = append_cancel_left (did t) s.steps es (ap did (sym s.made ∙ (is_u ∙ h.steps))) in
+        let splits : run ≡ past ++ (steps_of (suc r) es ++ s.rest) = s.splits ∙ (λ j. past ++ (steps_of (n.1 j) (same j) ++ s.rest)) in
+        let is_run = subst (IsTableRun host o) splits is_true in
+        let was : account (suc r) past ≡ did t = subst (λ (k : ℕ). account k past ≡ did t) n.1 s.before in
+        let at_first : answers_after w o.words (suc r) (account (suc r) past) ≡ knows host o t = λ j. answers_after w o.words (sym n.1 j) (was j) in
+        let at_last : answers_after w o.words (suc r) (account (suc r) (past ++ steps_of (suc r) es)) ≡ knows host o u =
+        ap (answers_after w o.words (suc r)) (account-append (suc r) past (steps_of (suc r) es) ∙ (λ j. was j ++ account_of (suc r) es j))
+        ∙ ((λ j. answers_after w o.words (sym n.1 j) (did t ++ es)) ∙ ap (knows host o) (sym h.steps)) in
+        let stands : before ≡ after = counter_stands host o (replay o.words past) (suc r) key h.root before after h.slots s.rest (true_parts o.words past _ is_run.is_true).1 in
+        let out : IsOut host o r past = ap look_state_of (sym (local_after_all w (answers_after w o.words (suc r) []) (account (suc r) past)) ∙ (ap (λ (a : Answers). a.local) at_first ∙ local)) ∙ between in
+        let gave = gives host o places law r past s.rest es is_run out key found (ap (λ (a : Answers). a.looks) at_last ∙ (looks_more stands ∙ ap (λ (a : Answers). a.looks ++ (key, found) ∷ []) (sym at_first))) in
+        is ∙ (ap (λ (b : Bool). cond b (look_result found) (Again before after)) (eq-eqb before after stands) ∙ ap look_result (sym gave))
 
   pub found_is : (v : ℕ) (x : Option ℕ) → Found v ≡ look_result x → Some v ≡ x
   found_is v (Some z) e = let s : v ≡ z = cc in ap Some s

@@ -1,11 +1,12 @@
 -- The answered looks of a reader in a run, and their places among the updates.
-use Rattle.std.specs.Prelude.{◌≡◌, ℕ, suc, Option, List, [], ◌∷◌, ◌++◌}
+use Rattle.std.specs.Prelude.{◌≡◌, ℕ, suc, Option, List, [], ◌∷◌, ◌++◌, map}
 use Rattle.std.specs.Ordering.{nat_cmp}
 use mathlib.Core.Option.{some}
 use lib.ListN.{get_elem?}
 use Rattle.ck_run.specs.declared.account.Entry.{Entry}
 use Rattle.ck_run.specs.Run.{Run, account}
-use Rattle.ck_run.specs.Tokens.{number, did}
+use Rattle.ck_run.specs.Tokens.{number, did, adding}
+use Rattle.ck_history.specs.declared.log.Look.{Look}
 use Rattle.ck_history.specs.Map.{find, after}
 use Rattle.ck_epoch.specs.State.{Origin, Token}
 use Rattle.ck_epoch.specs.Calls.{rec_of}
@@ -15,7 +16,20 @@ use Rattle.ck_htlaw.specs.Client.{answers_after, look_ends}
 use Rattle.ck_htlaw.specs.Host.{Host, lies}
 use Rattle.ck_htlaw.specs.Linearized.{updates}
 use Rattle.ck_htlaw.specs.Look.{no_look}
-use Rattle.ck_htlaw.specs.Law.{IsTableRun, IsLook, GaveWithin, local_in, updates_in, linearized, look_state_of, until}
+use Rattle.ck_htlaw.specs.Law.{IsTableRun, IsLook, GaveWithin, local_in, updates_in, linearized, map_in, look_state_of, until}
+use Rattle.ck_htread.specs.Reading.{look_result}
+
+-- steps of one token, with no other token's between them
+abbrev pub steps_of : ℕ → List Entry → Run
+steps_of n es = map (λ e. (n, e)) es
+
+-- The steps that the token made from t to u stand together in this run, after `past`: no other token's step is between the first of them and the last
+pub record StandTogether {D : Type 0} (t u : Token D) (past run : Run) : Type 0 where
+  pub steps : List Entry
+  pub rest : Run
+  pub made : u ≡ adding t steps
+  pub before : account (number t) past ≡ did t
+  pub splits : run ≡ past ++ (steps_of (number t) steps ++ rest)
 
 module _ {D : Type 0} (host : Host D) (origin : Origin D) where
   -- the answered looks of the reader r in this run, each with its key and its answer
@@ -51,3 +65,8 @@ module _ {D : Type 0} (host : Host D) (origin : Origin D) where
   -- In every true run in which the token has made these steps, and maybe more, its answer with the number i is this one, and has a place
   abbrev pub HasAnswered : Token D → ℕ → ℕ → Option ℕ → Type 0
   HasAnswered t i k x = (run : Run) (more : List Entry) → IsTableRun host origin run → account (number t) run ≡ did t ++ more → (p : ℕ) × HasPlace run (rec_of t) i k x p
+
+  -- In every true run in which the steps of this look of the key, from t to u, stand together, it answers, and what the map gives then: the map after the
+  -- updates that have taken place before its first step. So it does in each true run in which no two calls overlap
+  abbrev pub AnswersAlone : Token D → ℕ → Look → Token D → Type 0
+  AnswersAlone t key result u = (past run : Run) → IsTableRun host origin run → StandTogether t u past run → result ≡ look_result (find nat_cmp (map_in host origin past) key)

@@ -14,7 +14,7 @@ ghost use Rattle.ck_htlaw.specs.Law.{retries_of};
 ghost use Rattle.ck_htlaw.specs.Layout.{log_of, counters_of, table_words};
 ghost use Rattle.ck_htlaw.specs.Look.{LookState, at_version, at_state};
 ghost use Rattle.ck_htread.specs.Reading.{IsDueAt, IsInLook, state_then, LookTotals, totals_after_load, totals_of, IsInState, IsBetweenLooks, IsSearch, LoadsSlot, LoadsSlots, LoadsLook, Looks, look_result, answered_by, retries_by};
-ghost use Rattle.ck_htread.specs.Answered.{HasAnswered};
+ghost use Rattle.ck_htread.specs.Answered.{HasAnswered, AnswersAlone};
 
 use crate::laws::{places_law, roots_law};
 use crate::search::{Finding, Search};
@@ -191,7 +191,7 @@ fn load_look<D: Within<HtClient>>(domain: &Domain<D>, pass: &mut Pass<D>, key: K
 /// The value of the key, or that it is absent, or, where the counter of the map that it read has risen, that the look is to be made again,
 /// as `ck_ht_get_spmc`, but without its loop. The pass's section is open. The clauses name the steps that it made, and the answer by what
 /// they loaded. In every true run an answer is what the map gave at a moment between the load of the root and the last load, at a place as
-/// `places_law` says.
+/// `places_law` says. Where no other token steps between these two loads it always answers, and what the map gives then.
 #[inline]
 pub fn look<D: Within<HtClient>>(domain: &Domain<D>, pass: &mut Pass<D>, key: Key) -> Look
     requires table { table pass.old.token ≡ domain.now }
@@ -204,11 +204,13 @@ pub fn look<D: Within<HtClient>>(domain: &Domain<D>, pass: &mut Pass<D>, key: Ke
     ensures placed { (x : Option ℕ) → result ≡ look_result x → HasAnswered (host D.meaning D.place D.part) domain.now.origin pass.new.token (length (knows (host D.meaning D.place D.part) domain.now.origin pass.old.token).looks) key x }
     ensures retries { retries_of (knows (host D.meaning D.place D.part) domain.now.origin pass.new.token).local ≡ retries_of (knows (host D.meaning D.place D.part) domain.now.origin pass.old.token).local + retries_by result }
     ensures again { (before after : ℕ) → result ≡ Again before after → before < after }
+    ensures alone { AnswersAlone (host D.meaning D.place D.part) domain.now.origin pass.old.token key result pass.new.token }
     ensures between { IsBetweenLooks (host D.meaning D.place D.part) domain.now.origin pass.new }
     ensures calls { pass.new.calls ≡ pass.old.calls + length (answered_by key result) }
     ensures depth { depth pass.new.token ≡ depth pass.old.token }
     ensures part { IsDomainToken D.meaning pass.new.token }
 {
+    ck_htlaw::table_law::<D>();
     places_law::<D>();
     let loads = load_look(domain, pass, key);
     if loads.before != loads.after {
