@@ -27,7 +27,7 @@ use Rattle.ck_htlaw.specs.Client.{Answers, logged, due_at, due_next, answers_nex
 use Rattle.ck_htlaw.specs.Invariant.{WriterInvariant, IsSoundAt}
 use Rattle.ck_htlaw.specs.Linearized.{map_after, under_way, linearized_updates, update_of}
 use Rattle.ck_reclaim.proofs.Along.{along}
-use Rattle.ck_htlaw.proofs.RebuildSteps.{map_rest}
+use Rattle.ck_htlaw.proofs.RebuildSteps.{calm_map}
 use Rattle.ck_htlaw.proofs.Effects.{Makes, call_makes, answer_right, answer_update, copies_make}
 use Rattle.ck_htlaw.proofs.LogSteps.{Logged, log_then, After, first_logs, copy_logs, second_logs, released_logs, else_logs}
 use Rattle.ck_htlaw.proofs.Reclaim.{l as layout_in, IsTrue, epochs_run, scene, Holds, writer_next, by_writer_state, writer_same}
@@ -53,7 +53,7 @@ module _ (l : Layout) (ws : List ℕ) (p : WriterState) (h : WriterInvariant l w
       (subst (λ (u : Update ℕ). Makes (map_after us) u (by_stage l p idle e)) (sym (answer_update l p (opening_of e.opens))) (call_makes l ws p h slots (map_after us) at.sorted at.pairs (opening_of e.opens) (word_of e.step))))
   own_logs on (after_rebuild c) is at slots may = second_logs l log us p d e.opens (by_stage l p (after_rebuild c) e) (after_rebuild c) e.step (λ z. cc) at may
       (λ c' z. let same : c ≡ c' = cc in subst (λ (x : List ℕ). Makes (map_after us) (update_of (opening_of x)) (by_stage l p (after_rebuild c) e)) same
-      (call_makes l ws p h (map_rest (l.order p.root) (view l ws p.root) p.maps p.linearized (after_rebuild c) tt slots) (map_after us) at.sorted at.pairs (opening_of c) (word_of e.step)))
+      (call_makes l ws p h (calm_map (l.order p.root) (view l ws p.root) p.maps p.linearized (after_rebuild c) idle tt tt slots) (map_after us) at.sorted at.pairs (opening_of c) (word_of e.step)))
       (λ c' root j z. absurd cc)
   own_logs on (copying c root j idle) is at slots may = copy_logs l log us p d c root j (by_stage l p (copying c root j idle) e) idle at (λ z. copies_make l p (map_after us) (opening_of c) root j _)
   own_logs on (copying c root j g) is at slots may = copy_logs l log us p d c root j (by_stage l p (copying c root j g) e) g at (λ z. absurd cc)

@@ -1,10 +1,10 @@
 -- The stores in a region that isn't published yet, and the store of its root.
-use Rattle.std.proofs.Common.{◌≡◌, ◌≢◌, ℕ, suc, ◌+◌, ◌<◌, ◌≤◌, ◌⊎◌, ⊎_elim, inr, refl, sym, ap, ◌∙◌, subst, arith, Bool, cond, eq-eqb, ne_eqb, List, length, set, get_or-set_other, get_or-set_same, length-set}
+use Rattle.std.proofs.Common.{◌≡◌, ◌≢◌, ℕ, suc, ◌+◌, ◌<◌, ◌≤◌, ◌⊎◌, ⊎_elim, inl, inr, refl, sym, ap, ◌∙◌, subst, arith, Bool, cond, eq-eqb, ne_eqb, List, length, set, get_or-set_other, get_or-set_same, length-set}
 use mathlib.Core.Logic.{dite}
 use native.Mathlib.Decide.{ℕ_discrete}
 use Rattle.ck_slots.specs.Slots.{Order, SlotsView, Holds}
-use Rattle.ck_htlaw.specs.Stages.{Stage, idle, clearing, copying, retiring, retiring_at_end, after_rebuild, Maps, IsMap, IsOld, IsPut, Knows, parts, NoneFull}
-use Rattle.ck_htlaw.specs.Look.{LookState, counted, LookInvariant}
+use Rattle.ck_htlaw.specs.Stages.{Stage, idle, clearing, copying, retiring, retiring_at_end, after_rebuild, Maps, IsMap, IsOld, IsApart, IsPut, Knows, parts, NoneFull}
+use Rattle.ck_htlaw.specs.Look.{LookState, counted, IsSince, IsHalf, LookInvariant}
 use Rattle.ck_htlaw.specs.Table.{Layout, column, view, count, WriterState, cleared}
 use Rattle.ck_htlaw.specs.Invariant.{IsDisjoint, IsRegion, IsNewRegion, IsUnpublished, IsPair, owed, SeesPresent, SeesReplaced, WriterInvariant}
 use Rattle.ck_htlaw.proofs.Maps.{remaps}
@@ -24,79 +24,49 @@ IsCalm (retiring_at_end a) = Unit {0}
 IsCalm (after_rebuild c) = Unit {0}
 IsCalm g = ⊥
 
--- then no key stands twice
-calm_old : (g : Stage) → IsCalm g → IsOld g ≡ IsOld idle
-calm_old idle c = refl
-calm_old (clearing a b i) c = refl
-calm_old (copying a b j s) c = refl
-calm_old (retiring a b) c = refl
-calm_old (retiring_at_end a) c = refl
-calm_old (after_rebuild a) c = refl
-calm_old g c = absurd c
+-- then no key stands twice, no slot is being filled, there is nothing else to know, and no rise is owed
+abbrev IsAtRest : Stage → Type 0
+IsAtRest g = ((k s : ℕ) → IsOld g k s → ⊥) × ((o : Order) (r q k i : ℕ) → IsHalf o g r q k i → ⊥) × ((s : ℕ) → IsApart g s) × ((o : Order) (v : SlotsView) (maps : Maps) (q : ℕ) → Knows o v maps q g) × (owed g ≡ 0)
 
-module _ (o : Order) (v : SlotsView) (maps : Maps) (q : ℕ) where
-  -- and there is nothing else to know
-  calm_knows : (g : Stage) → IsCalm g → Knows o v maps q g
-  calm_knows idle c = tt
-  calm_knows (clearing a b i) c = tt
-  calm_knows (copying a b j s) c = tt
-  calm_knows (retiring a b) c = tt
-  calm_knows (retiring_at_end a) c = tt
-  calm_knows (after_rebuild a) c = tt
-  calm_knows g c = absurd c
+idle_rests : IsAtRest idle
+idle_rests = ((λ k s z. z), (λ o r q k i z. z), (λ s. tt), (λ o v maps q. tt), refl)
 
-  -- the words stand for the same map at a stage at which as many keys stand twice
-  same_map : (g g' : Stage) → IsOld g ≡ IsOld g' → Knows o v maps q g' → IsMap o v maps q g → IsMap o v maps q g'
-  same_map g g' old knows h = record {
+at_rest : (g : Stage) → IsCalm g → IsAtRest g
+at_rest idle c = idle_rests
+at_rest (clearing a b i) c = idle_rests
+at_rest (copying a b j s) c = idle_rests
+at_rest (retiring a b) c = idle_rests
+at_rest (retiring_at_end a) c = idle_rests
+at_rest (after_rebuild a) c = idle_rests
+at_rest g c = absurd c
+
+-- so what holds of the words and of a reader at one such stage holds at another
+module _ (o : Order) (v : SlotsView) (maps : Maps) (q : ℕ) (g g' : Stage) (c : IsCalm g) (c' : IsCalm g') where
+  pub calm_map : IsMap o v maps q g → IsMap o v maps q g'
+  calm_map h = let old = (at_rest g c).0 in record {
     hole = h.hole;
     way = h.way;
-    present = subst (λ (Old : ℕ → ℕ → Type 0). (k s : ℕ) → Holds o v k s → Old k s ⊎ (maps q k ≡ suc (v.value s))) old h.present;
-    some_slot = subst (λ (Old : ℕ → ℕ → Type 0). (k x : ℕ) → maps q k ≡ suc x → (s : ℕ) × Holds o v k s × (Old k s → ⊥)) old h.some_slot;
-    once = subst (λ (Old : ℕ → ℕ → Type 0). (k s t : ℕ) → Holds o v k s → Holds o v k t → (s ≡ t) ⊎ (Old k s ⊎ Old k t)) old h.once;
+    present = λ k s x. ⊎_elim (λ (z : IsOld g k s). absurd (old k s z)) (λ (is : maps q k ≡ suc (v.value s)). inr is) (h.present k s x);
+    some_slot = λ k x is. let f = h.some_slot k x is in (f.0, f.1, (at_rest g' c').0 k f.0);
+    once = λ k s t x y. ⊎_elim (λ (is : s ≡ t). inl is) (λ (two : IsOld g k s ⊎ IsOld g k t). absurd (⊎_elim (old k s) (old k t) two)) (h.once k s t x y);
     keyed = h.keyed;
     states = h.states;
-    knows = knows;
+    knows = (at_rest g' c').3 o v maps q;
   }
 
-  pub map_rest : (g : Stage) → IsCalm g → IsMap o v maps q g → IsMap o v maps q idle
-  map_rest g c = same_map g idle (calm_old g c) tt
+  calm_kept : (r : ℕ) → IsKept o v v maps maps q q g g' r
+  calm_kept r = record {
+    since = λ k x s. s;
+    ahead = λ k i. ⊎_elim (λ (a : IsSince maps r q k 0). inl a) (λ (a : ((s : ℕ) → Holds o v k s → i ≤ o.step k s) ⊎ IsHalf o g r q k i).
+        ⊎_elim (λ (b : (s : ℕ) → Holds o v k s → i ≤ o.step k s). inr (inl b)) (λ (b : IsHalf o g r q k i). absurd ((at_rest g c).1 o r q k i b)) a);
+    stable = λ s x. record { state = x.state; apart = (at_rest g' c').2 s };
+    low = λ s x. refl;
+    high = λ s x. refl;
+    justified = λ k s x law. law;
+  }
 
-  pub rest_map : (g : Stage) → IsCalm g → IsMap o v maps q idle → IsMap o v maps q g
-  rest_map g c = same_map idle g (sym (calm_old g c)) (calm_knows g c)
-
-  module _ (r : ℕ) where
-    calm_rest : (g : Stage) → IsCalm g → IsKept o v v maps maps q q g idle r
-    calm_rest idle c = record { since = λ k x s. s; ahead = λ k i a. a; stable = λ s x. x; low = λ s x. refl; high = λ s x. refl; justified = λ k s x law. law }
-    calm_rest (clearing a b i) c = record { since = λ k x s. s; ahead = λ k i a. a; stable = λ s x. record { state = x.state; apart = tt }; low = λ s x. refl; high = λ s x. refl; justified = λ k s x law. law }
-    calm_rest (copying a b j s) c = record { since = λ k x s. s; ahead = λ k i a. a; stable = λ s x. record { state = x.state; apart = tt }; low = λ s x. refl; high = λ s x. refl; justified = λ k s x law. law }
-    calm_rest (retiring a b) c = record { since = λ k x s. s; ahead = λ k i a. a; stable = λ s x. record { state = x.state; apart = tt }; low = λ s x. refl; high = λ s x. refl; justified = λ k s x law. law }
-    calm_rest (retiring_at_end a) c = record { since = λ k x s. s; ahead = λ k i a. a; stable = λ s x. record { state = x.state; apart = tt }; low = λ s x. refl; high = λ s x. refl; justified = λ k s x law. law }
-    calm_rest (after_rebuild a) c = record { since = λ k x s. s; ahead = λ k i a. a; stable = λ s x. record { state = x.state; apart = tt }; low = λ s x. refl; high = λ s x. refl; justified = λ k s x law. law }
-    calm_rest g c = absurd c
-
-    rest_calm : (g : Stage) → IsCalm g → IsKept o v v maps maps q q idle g r
-    rest_calm idle c = record { since = λ k x s. s; ahead = λ k i a. a; stable = λ s x. x; low = λ s x. refl; high = λ s x. refl; justified = λ k s x law. law }
-    rest_calm (clearing a b i) c = record { since = λ k x s. s; ahead = λ k i a. a; stable = λ s x. record { state = x.state; apart = tt }; low = λ s x. refl; high = λ s x. refl; justified = λ k s x law. law }
-    rest_calm (copying a b j s) c = record { since = λ k x s. s; ahead = λ k i a. a; stable = λ s x. record { state = x.state; apart = tt }; low = λ s x. refl; high = λ s x. refl; justified = λ k s x law. law }
-    rest_calm (retiring a b) c = record { since = λ k x s. s; ahead = λ k i a. a; stable = λ s x. record { state = x.state; apart = tt }; low = λ s x. refl; high = λ s x. refl; justified = λ k s x law. law }
-    rest_calm (retiring_at_end a) c = record { since = λ k x s. s; ahead = λ k i a. a; stable = λ s x. record { state = x.state; apart = tt }; low = λ s x. refl; high = λ s x. refl; justified = λ k s x law. law }
-    rest_calm (after_rebuild a) c = record { since = λ k x s. s; ahead = λ k i a. a; stable = λ s x. record { state = x.state; apart = tt }; low = λ s x. refl; high = λ s x. refl; justified = λ k s x law. law }
-    rest_calm g c = absurd c
-
-    pub reader_rest : (g : Stage) → IsCalm g → (now : ℕ) (look_state : LookState) → LookInvariant o v maps q g now r look_state → LookInvariant o v maps q idle now r look_state
-    reader_rest g c now look_state = reader_kept o v v maps maps q q g idle r (calm_rest g c) (omega arith) now look_state
-
-    pub rest_reader : (g : Stage) → IsCalm g → (now : ℕ) (look_state : LookState) → LookInvariant o v maps q idle now r look_state → LookInvariant o v maps q g now r look_state
-    rest_reader g c now look_state = reader_kept o v v maps maps q q idle g r (rest_calm g c) (omega arith) now look_state
-
-calm_owes : (g : Stage) → IsCalm g → owed g ≡ 0
-calm_owes idle c = refl
-calm_owes (clearing a b i) c = refl
-calm_owes (copying a b j s) c = refl
-calm_owes (retiring a b) c = refl
-calm_owes (retiring_at_end a) c = refl
-calm_owes (after_rebuild a) c = refl
-calm_owes g c = absurd c
+  pub calm_reader : (r now : ℕ) (look_state : LookState) → LookInvariant o v maps q g now r look_state → LookInvariant o v maps q g' now r look_state
+  calm_reader r = reader_kept o v v maps maps q q g g' r (calm_kept r) (omega arith)
 
 module _ (l : Layout) (ws : List ℕ) (p : WriterState) (h : WriterInvariant l ws p) where
   abbrev o : Order
@@ -107,9 +77,9 @@ module _ (l : Layout) (ws : List ℕ) (p : WriterState) (h : WriterInvariant l w
 
   -- one calm stage for another
   pub turns_calm_log : (Free : ℕ → Type 0) (g g' : Stage) (log' : ℕ) → p.log ≤ log' → p.stage ≡ g → IsCalm g → IsCalm g' → IsUnpublished l ws p.root g' → Preserves l Free ws p ws record p { stage = g'; log = log' }
-  turns_calm_log Free g g' log' up e c c' hid = let z = bumps_at l Free ws p h g e in let a = calm_owes g c in let a' = calm_owes g' c' in
-      writer_step l Free ws p h ws p.words g' p.maps p.linearized log' p.bumps refl h.root h.words h.long (rest_map o v p.maps p.linearized g' c' (map_rest o v p.maps p.linearized g c (map_at l Free ws p h g e))) (omega arith) hid (omega arith) (λ j k b. refl)
-      (λ r look_state x. rest_reader o v p.maps p.linearized r g' c' (count l ws p.root) look_state (reader_rest o v p.maps p.linearized r g c (count l ws p.root) look_state (subst (λ (s : Stage). LookInvariant o v p.maps p.linearized s (count l ws p.root) r look_state) e x)))
+  turns_calm_log Free g g' log' up e c c' hid = let z = bumps_at l Free ws p h g e in let a = (at_rest g c).4 in let a' = (at_rest g' c').4 in
+      writer_step l Free ws p h ws p.words g' p.maps p.linearized log' p.bumps refl h.root h.words h.long (calm_map o v p.maps p.linearized g g' c c' (map_at l Free ws p h g e)) (omega arith) hid (omega arith) (λ j k b. refl)
+      (λ r look_state x. calm_reader o v p.maps p.linearized g g' c c' r (count l ws p.root) look_state (subst (λ (s : Stage). LookInvariant o v p.maps p.linearized s (count l ws p.root) r look_state) e x))
       (λ a look_state x. x) (omega arith) (λ root x d _. (refl, refl))
 
   pub turns_calm : (Free : ℕ → Type 0) (g g' : Stage) → p.stage ≡ g → IsCalm g → IsCalm g' → IsUnpublished l ws p.root g' → Preserves l Free ws p ws record p { stage = g' }
@@ -128,13 +98,13 @@ module _ (l : Layout) (ws : List ℕ) (p : WriterState) (h : WriterInvariant l w
 
     pub hidden_step : (s j x : ℕ) (g g' : Stage) → p.stage ≡ g → IsCalm g → IsCalm g' → s < o'.slots → j < 4 → IsUnpublished l (set ws (l.word root s j) x) p.root g'
         → Preserves l Free ws p (set ws (l.word root s j) x) record p { stage = g'; words = set p.words (l.word root s j) x }
-    hidden_step s j x g g' e c c' inside b hid = let ws' : List ℕ = set ws (l.word root s j) x in let z = bumps_at l Free ws p h g e in let a = calm_owes g c in let a' = calm_owes g' c' in
+    hidden_step s j x g g' e c c' inside b hid = let ws' : List ℕ = set ws (l.word root s j) x in let z = bumps_at l Free ws p h g e in let a = (at_rest g c).4 in let a' = (at_rest g' c').4 in
         let n : (other : ℕ) → l.counter other < l.slots_from → count l ws' other ≡ count l ws other = λ other low. count_stays l ws root fresh.region s x inside j other b low in
         let same : view l ws' p.root ≡ v = view_apart l ws p.root root s j x fresh.before inside b in
         writer_step l Free ws p h ws' (set p.words (l.word root s j) x) g' p.maps p.linearized p.log p.bumps (length-set ws (l.word root s j) x) (root_stays l ws root fresh.region s x inside j b ∙ h.root) (agree_set l ws p.words h.words h.long h.fits (l.word root s j) x) (long_set ws p.words (l.word root s j) x h.long)
-        (subst (λ (u : SlotsView). IsMap o u p.maps p.linearized g') (sym same) (rest_map o v p.maps p.linearized g' c' (map_rest o v p.maps p.linearized g c (map_at l Free ws p h g e)))) (omega arith) hid (omega arith) (λ j k b. refl)
+        (subst (λ (u : SlotsView). IsMap o u p.maps p.linearized g') (sym same) (calm_map o v p.maps p.linearized g g' c c' (map_at l Free ws p h g e))) (omega arith) hid (omega arith) (λ j k b. refl)
         (λ r look_state y. subst (λ (u : SlotsView × ℕ). LookInvariant o u.0 p.maps p.linearized g' u.1 r look_state) (λ i. (sym same i, sym (n p.root h.region.counter_low) i))
-        (rest_reader o v p.maps p.linearized r g' c' (count l ws p.root) look_state (reader_rest o v p.maps p.linearized r g c (count l ws p.root) look_state (subst (λ (s : Stage). LookInvariant o v p.maps p.linearized s (count l ws p.root) r look_state) e y))))
+        (calm_reader o v p.maps p.linearized g g' c c' r (count l ws p.root) look_state (subst (λ (s : Stage). LookInvariant o v p.maps p.linearized s (count l ws p.root) r look_state) e y)))
         (λ a look_state y. subst (λ (u : ℕ). a + u ≤ p.bumps + counted u look_state) (sym (n p.root h.region.counter_low)) y) (omega arith)
         (λ other y d free. (view_apart l ws other root s j x free inside b, n other y.counter_low))
 
@@ -170,8 +140,8 @@ module _ (l : Layout) (ws : List ℕ) (p : WriterState) (h : WriterInvariant l w
         let long : length ws' ≡ length ws = length-set ws l.base root in
         let views : (other : ℕ) → IsRegion l (length ws) other → view l ws' other ≡ view l ws other = λ other y. view_far l ws other l.base root (λ t i b bi. y.off_root t i b bi) in
         let counts : (other : ℕ) → IsRegion l (length ws) other → count l ws' other ≡ count l ws other = λ other y. get_or-set_other ws l.base (l.counter other) root 0 y.counter_off_root in
-        let old : IsMap o v p.maps p.linearized idle = map_rest o v p.maps p.linearized g c (map_at l Free ws p h g e) in
-        let z = bumps_at l Free ws p h g e in let a = calm_owes g c in let a' = calm_owes g' c' in
+        let old : IsMap o v p.maps p.linearized idle = calm_map o v p.maps p.linearized g idle c tt (map_at l Free ws p h g e) in
+        let z = bumps_at l Free ws p h g e in let a = (at_rest g c).4 in let a' = (at_rest g' c').4 in
         let whole : (k : ℕ) → maps' placed' k ≡ parts o v j k = λ k. here k ∙ (sym (parts_all o h.region.ok v p.maps p.linearized old k) ∙ parts_skip o h.region.ok v j o.slots k le (omega arith) none) in
         let new : IsMap o' v' maps' placed' idle = remaps o' v' (parts o v) j maps' placed' whole map in
         record {
@@ -182,7 +152,7 @@ module _ (l : Layout) (ws : List ℕ) (p : WriterState) (h : WriterInvariant l w
             some_word = h.some_word;
             root = get_or-set_same ws l.base root 0 (let b = h.fits in let d = h.some_word in omega arith);
             region = subst (λ (n : ℕ). IsRegion l n root) (sym long) fresh.region;
-            map = subst (λ (u : SlotsView). IsMap o' u maps' placed' g') (sym (views root fresh.region)) (rest_map o' v' maps' placed' g' c' new);
+            map = subst (λ (u : SlotsView). IsMap o' u maps' placed' g') (sym (views root fresh.region)) (calm_map o' v' maps' placed' idle g' tt c' new);
             bumps = omega arith;
             hidden = hid;
           };
@@ -197,7 +167,7 @@ module _ (l : Layout) (ws : List ℕ) (p : WriterState) (h : WriterInvariant l w
                   map = subst (λ (u : SlotsView). IsMap o u maps' p.linearized idle) (sym (views p.root h.region)) (remaps o v p.maps p.linearized maps' p.linearized (λ k. same p.linearized k (omega arith)) old);
                   is_reader = subst (λ (u : SlotsView × ℕ). LookInvariant o u.0 maps' p.linearized idle u.1 r y.look_state) (λ i. (sym (views p.root h.region) i, sym (counts p.root h.region) i))
                       (reader_kept o v v p.maps maps' p.linearized p.linearized idle idle r (kept_maps o v p.maps maps' p.linearized p.linearized r same (omega arith)) (omega arith) (count l ws p.root) y.look_state
-                      (reader_rest o v p.maps p.linearized r g c (count l ws p.root) y.look_state (subst (λ (s : Stage). LookInvariant o v p.maps p.linearized s (count l ws p.root) r y.look_state) e cur.is_reader)));
+                      (calm_reader o v p.maps p.linearized g idle c tt r (count l ws p.root) y.look_state (subst (λ (s : Stage). LookInvariant o v p.maps p.linearized s (count l ws p.root) r y.look_state) e cur.is_reader)));
                   retries = subst (λ (n : ℕ). y.retries + n ≤ p.bumps + counted n y.look_state) (sym (counts p.root h.region)) cur.retries;
                 }))
                 (λ (f : SeesReplaced l ws p r y). let past = f.past in let same' : (i k : ℕ) → i ≤ f.place → maps' i k ≡ p.maps i k = λ i k b. same i k (omega arith) in inr record {

@@ -19,7 +19,7 @@ use Rattle.ck_htlaw.specs.Invariant.{IsOwn, IsRegion, IsNewRegion, IsSound, IsSo
 use Rattle.ck_htlaw.proofs.Words.{if_inside}
 use Rattle.ck_htlaw.proofs.Maps.{remaps}
 use Rattle.ck_htlaw.proofs.Parts.{parts_skip}
-use Rattle.ck_htlaw.proofs.RebuildSteps.{map_rest}
+use Rattle.ck_htlaw.proofs.RebuildSteps.{calm_map}
 use Rattle.ck_htplan.specs.Deciding.{next_full}
 use Rattle.ck_htplan.proofs.Says.{Says, says}
 use Rattle.ck_htplan.proofs.Decided.{IsNext, next_is, next_none}
@@ -184,6 +184,6 @@ module _ (l : Layout) (words : (root : ℕ) → ((k : ℕ) → (l.order root).lo
     where
       go : (g : Stage) → IsMap (l.order p.root) (view l ws p.root) p.maps p.linearized g → IsUnpublished l ws p.root g → IsSoundAt l ws p.root (p.maps p.linearized) (by_stage l p g e) g
       go idle m hid = call_sound l ws p h m (opening_of e.opens) (word_of e.step)
-      go (after_rebuild c) m hid = call_sound l ws p h (map_rest (l.order p.root) (view l ws p.root) p.maps p.linearized (after_rebuild c) tt m) (opening_of c) (word_of e.step)
-      go (copying c root j idle) m hid = to_copy_sound l ws p h words root j (map_rest (l.order p.root) (view l ws p.root) p.maps p.linearized (copying c root j idle) tt m) hid.0 hid.1 (opening_of c) (next_full (slots_now l p).state ((l.order p.root).slots - j) j) refl
+      go (after_rebuild c) m hid = call_sound l ws p h (calm_map (l.order p.root) (view l ws p.root) p.maps p.linearized (after_rebuild c) idle tt tt m) (opening_of c) (word_of e.step)
+      go (copying c root j idle) m hid = to_copy_sound l ws p h words root j (calm_map (l.order p.root) (view l ws p.root) p.maps p.linearized (copying c root j idle) idle tt tt m) hid.0 hid.1 (opening_of c) (next_full (slots_now l p).state ((l.order p.root).slots - j) j) refl
       go g m hid = tt

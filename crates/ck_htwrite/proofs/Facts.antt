@@ -40,7 +40,7 @@ use Rattle.ck_htlaw.proofs.Lives.{opt, live_keys}
 use Rattle.ck_htlaw.proofs.Effects.{answer_right}
 use Rattle.ck_htlaw.proofs.Soundness.{plan_right, plan_says, now}
 use Rattle.ck_htlaw.proofs.Planning.{missing}
-use Rattle.ck_htlaw.proofs.RebuildSteps.{map_rest}
+use Rattle.ck_htlaw.proofs.RebuildSteps.{calm_map}
 use Rattle.ck_htwrite.specs.Entries.{HasKeys, HoldsMap, key_in}
 use Rattle.ck_htwrite.specs.Writes.{WriterIs}
 
@@ -180,7 +180,7 @@ module _ {D : Type 0} (h : Host D) (within : IsWithin table h.client h.place h.p
       none = opt_none (p.maps p.linearized key) (pairs_now (ap (λ (g : Stage). under_way g (knows h (origin t) t).due) after) key ∙ not_found)
 
       map_after_rebuild : IsMap (l.order p.root) (view l words p.root) p.maps p.linearized idle
-      map_after_rebuild = map_rest (l.order p.root) (view l words p.root) p.maps p.linearized (after_rebuild call) tt (subst (λ (g : Stage). IsMap (l.order p.root) (view l words p.root) p.maps p.linearized g) after holds.map)
+      map_after_rebuild = calm_map (l.order p.root) (view l words p.root) p.maps p.linearized (after_rebuild call) idle tt tt (subst (λ (g : Stage). IsMap (l.order p.root) (view l words p.root) p.maps p.linearized g) after holds.map)
 
       held : (s : ℕ) → Holds (l.order p.root) (view l words p.root) key s → ⊥
       held s x = ⊎_elim (λ z. z) (λ (e : p.maps p.linearized key ≡ suc ((view l words p.root).value s)). absurd (let z : 0 ≡ suc ((view l words p.root).value s) = sym none ∙ e in cc)) (map_after_rebuild.present key s x)
