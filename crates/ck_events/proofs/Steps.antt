@@ -24,7 +24,7 @@ use Rattle.ck_signal.specs.declared.signals.Signals.{Signals}
 use Rattle.ck_signal.specs.Signals.{readers}
 use Rattle.ck_signal.specs.Words.{reached, answered, reaches, marks, asks}
 use Rattle.ck_signal.specs.Told.{applied_word_of, answered_word_of}
-use Rattle.ck_events.specs.Events.{Structure, reached_result, answer_events, update_events, gained, reached_event, answered_event, reader_event, writer_event, reader_events, writer_events, events_of_pass, events_of_hand}
+use Rattle.ck_events.specs.Events.{Structure, reached_result, answer_events, update_events, gained, reached_event, answered_event, events_of_pass, events_of_hand}
 
 both_true : (a b : Bool) → (a && b) ≡ true → (a ≡ true) × (b ≡ true)
 both_true true true e = (refl, refl)
@@ -44,13 +44,73 @@ gained_is {A} xs ys zs is = ap (λ (l : List A). drop (length xs) l) is ∙ past
 pub gained_none : {A : Type 0} (xs zs : List A) → zs ≡ xs → gained xs zs ≡ []
 gained_none xs zs is = gained_is xs [] zs (is ∙ sym (append-nil xs))
 
-pub answer_events-append : {Q A : Type 0} (xs ys : List (Q × A)) → answer_events (xs ++ ys) ≡ answer_events xs ++ answer_events ys
-answer_events-append [] ys = refl
-answer_events-append {Q} {A} (x ∷ xs) ys = ap (λ (es : List (ReaderEvent Q A)). Answered x.0 x.1 ∷ es) (answer_events-append xs ys)
+-- each of the entries is of this kind
+abbrev pub Each : (Entry → Type 0) → List Entry → Type 0
+Each Is [] = Unit {0}
+Each Is (e ∷ es) = Is e × Each Is es
 
-pub update_events-append : {U R : Type 0} (xs ys : List (U × R)) → update_events (xs ++ ys) ≡ update_events xs ++ update_events ys
-update_events-append [] ys = refl
-update_events-append {U} {R} (x ∷ xs) ys = ap (λ (es : List (WriterEvent U R)). Updated x.0 x.1 ∷ es) (update_events-append xs ys)
+-- One side of a structure: the items that a token's steps bring, as events, and the event that a step is by itself
+record Side (S I E : Type 0) : Type 0 where
+  start : ℕ → S
+  next : S → Entry → S
+  items : S → List I
+  event : I → E
+  own : S → Entry → List E
+
+module _ {S I E : Type 0} (side : Side S I E) where
+  abbrev item_events : List I → List E
+  item_events [] = []
+  item_events (x ∷ xs) = side.event x ∷ item_events xs
+
+  abbrev step_events : S → Entry → List E
+  step_events s e = item_events (gained (side.items s) (side.items (side.next s e))) ++ side.own s e
+
+  abbrev side_events : S → List Entry → List E
+  side_events s [] = []
+  side_events s (e ∷ es) = step_events s e ++ side_events (side.next s e) es
+
+  item_events-append : (xs ys : List I) → item_events (xs ++ ys) ≡ item_events xs ++ item_events ys
+  item_events-append [] ys = refl
+  item_events-append (x ∷ xs) ys = ap (λ (es : List E). side.event x ∷ es) (item_events-append xs ys)
+
+  side_events-append : (s : S) (es fs : List Entry) → side_events s (es ++ fs) ≡ side_events s es ++ side_events (state_after side.next s es) fs
+  side_events-append s [] fs = refl
+  side_events-append s (e ∷ es) fs = ap (λ (xs : List E). step_events s e ++ xs) (side_events-append (side.next s e) es fs)
+      ∙ sym (append_assoc (step_events s e) (side_events (side.next s e) es) (side_events (state_after side.next (side.next s e) es) fs))
+
+  abbrev known_of : {C : Type 0} → Token C → S
+  known_of t = state_after side.next (side.start (number t)) (did t)
+
+  abbrev events_of : {C : Type 0} → Token C → List E
+  events_of t = side_events (side.start (number t)) (did t)
+
+  -- the events after some entries more
+  events_grow : {C : Type 0} (t u : Token C) (es : List Entry) → u ≡ adding t es → events_of u ≡ events_of t ++ side_events (known_of t) es
+  events_grow t u es made = ap events_of made ∙ side_events-append (side.start (number t)) (did t) es
+
+  -- a step that brings no item
+  step_event : {C : Type 0} (t u : Token C) (e : Entry) → u ≡ adding t (e ∷ []) → side.items (side.next (known_of t) e) ≡ side.items (known_of t) → events_of u ≡ events_of t ++ side.own (known_of t) e
+  step_event t u e made none =
+      events_grow t u (e ∷ []) made ∙ ap (λ (xs : List E). events_of t ++ xs)
+      (append-nil (step_events (known_of t) e) ∙ (λ i. item_events (gained_none (side.items (known_of t)) (side.items (side.next (known_of t) e)) none i) ++ side.own (known_of t) e))
+
+  -- entries that are no event by themselves add the items that they bring, where the items only grow
+  module _ (grows : (s : S) (e : Entry) → (more : List I) × (side.items (side.next s e) ≡ side.items s ++ more)) (IsBare : Entry → Type 0) (bare : (s : S) (e : Entry) → IsBare e → side.own s e ≡ []) where
+    bare_events : (s : S) (es : List Entry) → Each IsBare es → (more : List I) × (side.items (state_after side.next s es) ≡ side.items s ++ more) × (side_events s es ≡ item_events more)
+    bare_events s [] are = ([], sym (append-nil (side.items s)), refl)
+    bare_events s (e ∷ es) are =
+        let g = grows s e in let rest = bare_events (side.next s e) es are.1 in (
+          g.0 ++ rest.0,
+          rest.1 ∙ (ap (λ (l : List I). l ++ rest.0) g.1 ∙ append_assoc (side.items s) g.0 rest.0),
+          (λ i. ((λ j. item_events (gained_is (side.items s) g.0 (side.items (side.next s e)) g.1 j) ++ bare s e are.0 j) ∙ append-nil (item_events g.0)) i ++ rest.2 i) ∙ sym (item_events-append g.0 rest.0),
+        )
+
+    items_are_events : {C : Type 0} (t u : Token C) (es : List Entry) (new : List I) → u ≡ adding t es → Each IsBare es → side.items (known_of u) ≡ side.items (known_of t) ++ new → events_of u ≡ events_of t ++ item_events new
+    items_are_events {C} t u es new made are items =
+        let b = bare_events (known_of t) es are in
+        let after : side.items (known_of u) ≡ side.items (known_of t) ++ b.0 = ap (λ (v : Token C). side.items (known_of v)) made ∙ (ap side.items (state-append side.next (side.start (number t)) (did t) es) ∙ b.1) in
+        let same : b.0 ≡ new = append_cancel_left (side.items (known_of t)) b.0 new (sym after ∙ items) in
+        events_grow t u es made ∙ ap (λ (xs : List E). events_of t ++ xs) (b.2 ∙ ap item_events same)
 
 -- what `reached` answers, by whether it found enough
 pub result_ok : (n found : ℕ) → n ≤ found → reached_result n found ≡ Ok tt
@@ -64,8 +124,7 @@ abbrev pub OpensNone : List ℕ → Type 0
 OpensNone opens = (r : ℕ) → opens ≡ answered ∷ r ∷ [] → ⊥
 
 abbrev pub AreQuiet : List Entry → Type 0
-AreQuiet [] = Unit {0}
-AreQuiet (e ∷ es) = OpensNone e.opens × AreQuiet es
+AreQuiet = Each (λ (e : Entry). OpensNone e.opens)
 
 pub AreQuiet-append : (xs ys : List Entry) → AreQuiet xs → AreQuiet ys → AreQuiet (xs ++ ys)
 AreQuiet-append [] ys a c = c
@@ -113,8 +172,7 @@ module _ {C : Type 0} (client : Client C) (o : Origin (Signals C)) where
   IsSilent e = (wanted found : ℕ) → e.opens ≡ reached ∷ wanted ∷ [] → e.step ≡ Load (applied_word_of client o) found → ⊥
 
   abbrev pub AreSilent : List Entry → Type 0
-  AreSilent [] = Unit {0}
-  AreSilent (e ∷ es) = IsSilent e × AreSilent es
+  AreSilent = Each IsSilent
 
   -- steps on the words of the epochs are no events
   pub silent_below : (es : List Entry) → All (λ (e : Entry). (word_of e.step < base_of o) × (e.item ≡ [])) es → AreSilent es
@@ -149,32 +207,20 @@ module _ {C : Type 0} (client : Client C) (o : Origin (Signals C)) where
     abbrev pub knows : Token (Signals C) → S
     knows t = state_after known.next (known.start (number t)) (did t)
 
-    reader_events-append : (s : S) (es fs : List Entry) → reader_events client o known s (es ++ fs) ≡ reader_events client o known s es ++ reader_events client o known (state_after known.next s es) fs
-    reader_events-append s [] fs = refl
-    reader_events-append s (e ∷ es) fs = ap (λ (xs : List (ReaderEvent Q A)). reader_event client o known s e ++ xs) (reader_events-append (known.next s e) es fs)
-        ∙ sym (append_assoc (reader_event client o known s e) (reader_events client o known (known.next s e) es) (reader_events client o known (state_after known.next (known.next s e) es) fs))
+    abbrev pass : Side S (Q × A) (ReaderEvent Q A)
+    pass = record { start = known.start; next = known.next; items = known.answers; event = λ x. Answered x.0 x.1; own = λ s e. reached_event client o (known.is_out s) e.opens e.step }
 
-    writer_events-append : (s : S) (es fs : List Entry) → writer_events client o known s (es ++ fs) ≡ writer_events client o known s es ++ writer_events client o known (state_after known.next s es) fs
-    writer_events-append s [] fs = refl
-    writer_events-append s (e ∷ es) fs = ap (λ (xs : List (WriterEvent U R)). writer_event client o known s e ++ xs) (writer_events-append (known.next s e) es fs)
-        ∙ sym (append_assoc (writer_event client o known s e) (writer_events client o known (known.next s e) es) (writer_events client o known (state_after known.next (known.next s e) es) fs))
-
-    -- the events of a pass after some entries more, and those of a writer
-    pub pass_events_grow : (t u : Token (Signals C)) (es : List Entry) → u ≡ adding t es → events_of_pass client o known u ≡ events_of_pass client o known t ++ reader_events client o known (knows t) es
-    pass_events_grow t u es made = ap (events_of_pass client o known) made ∙ reader_events-append (known.start (number t)) (did t) es
-
-    pub hand_events_grow : (t u : Token (Signals C)) (es : List Entry) → u ≡ adding t es → events_of_hand client o known u ≡ events_of_hand client o known t ++ writer_events client o known (knows t) es
-    hand_events_grow t u es made = ap (events_of_hand client o known) made ∙ writer_events-append (known.start (number t)) (did t) es
+    abbrev hand : Side S (U × R) (WriterEvent U R)
+    hand = record { start = known.start; next = known.next; items = known.log; event = λ x. Updated x.0 x.1; own = λ s e. answered_event client o (known.is_idle s) e.opens e.step }
 
     -- a step of `reached` by a reader between two queries, which answers nothing
     pub reach_event : (t u : Token (Signals C)) (n found : ℕ) → u ≡ adding t (reaches (applied_word_of client o) n found ∷ []) → known.is_out (knows t) ≡ true
         → known.answers (known.next (knows t) (reaches (applied_word_of client o) n found)) ≡ known.answers (knows t) → events_of_pass client o known u ≡ events_of_pass client o known t ++ Reached n (reached_result n found) ∷ []
     reach_event t u n found made out none =
         let e : Entry = reaches (applied_word_of client o) n found in
-        let event : reader_event client o known (knows t) e ≡ Reached n (reached_result n found) ∷ [] =
-        (λ i. answer_events (gained_none (known.answers (knows t)) (known.answers (known.next (knows t) e)) none i) ++ reached_event client o (out i) e.opens e.step)
-        ∙ ap (λ (c : Bool). cond {A = List (ReaderEvent Q A)} c (Reached n (reached_result n found) ∷ []) []) (both 12 (applied_word_of client o)) in
-        pass_events_grow t u (e ∷ []) made ∙ ap (λ (xs : List (ReaderEvent Q A)). events_of_pass client o known t ++ xs) (append-nil (reader_event client o known (knows t) e) ∙ event)
+        step_event pass t u e made none
+        ∙ ap (λ (xs : List (ReaderEvent Q A)). events_of_pass client o known t ++ xs)
+        (ap (λ (g : Bool). reached_event client o {Q = Q} {A = A} g e.opens e.step) out ∙ ap (λ (c : Bool). cond {A = List (ReaderEvent Q A)} c (Reached n (reached_result n found) ∷ []) []) (both 12 (applied_word_of client o)))
 
     pub reached_event_is : (p q : Pass (Signals C)) (n : ℕ) (result : Result (Unit {0}) ℕ) → Reaches p q n result → known.is_out (knows p.token) ≡ true
         → ((found : ℕ) → known.answers (known.next (knows p.token) (reaches (applied_word_of client o) n found)) ≡ known.answers (knows p.token))
@@ -186,29 +232,21 @@ module _ {C : Type 0} (client : Client C) (o : Origin (Signals C)) where
         reach_event p.token q.token n found (ap (λ (x : Pass (Signals C)). x.token) step.1) out (none found)
         ∙ ap (λ (r : Result (Unit {0}) ℕ). events_of_pass client o known p.token ++ Reached n r ∷ []) (result_err n found step.0)
 
-    -- a step of the writer that answers nothing
-    pub writer_step : (t u : Token (Signals C)) (e : Entry) → u ≡ adding t (e ∷ []) → known.log (known.next (knows t) e) ≡ known.log (knows t)
-        → events_of_hand client o known u ≡ events_of_hand client o known t ++ answered_event client o (known.is_idle (knows t)) e.opens e.step
-    writer_step t u e made none =
-        let event : writer_event client o known (knows t) e ≡ answered_event client o (known.is_idle (knows t)) e.opens e.step =
-        (λ i. update_events (gained_none (known.log (knows t)) (known.log (known.next (knows t) e)) none i) ++ answered_event client o (known.is_idle (knows t)) e.opens e.step) in
-        hand_events_grow t u (e ∷ []) made ∙ ap (λ (xs : List (WriterEvent U R)). events_of_hand client o known t ++ xs) (append-nil (writer_event client o known (knows t) e) ∙ event)
-
-    -- such a step of `mark`
+    -- a step of `mark`, which answers nothing
     pub mark_event : (t u : Token (Signals C)) (n : ℕ) → u ≡ adding t (marks (applied_word_of client o) n ∷ []) → known.log (known.next (knows t) (marks (applied_word_of client o) n)) ≡ known.log (knows t)
         → events_of_hand client o known u ≡ events_of_hand client o known t
     mark_event t u n made none =
         let e : Entry = marks (applied_word_of client o) n in
-        writer_step t u e made none
+        step_event hand t u e made none
         ∙ (ap (λ (es : List (WriterEvent U R)). events_of_hand client o known t ++ es) (no_answer {U = U} {R = R} (known.is_idle (knows t)) e.opens e.step (λ r z. cc)) ∙ append-nil (events_of_hand client o known t))
 
-    -- such a step of `answered`
+    -- a step of `answered` by the writer between two updates, which answers nothing
     pub asked_event : (t u : Token (Signals C)) (r n : ℕ) → r < readers o → u ≡ adding t (asks (answered_word_of client o r) r n ∷ []) → known.is_idle (knows t) ≡ true
         → known.log (known.next (knows t) (asks (answered_word_of client o r) r n)) ≡ known.log (knows t) → events_of_hand client o known u ≡ events_of_hand client o known t ++ Told r n ∷ []
     asked_event t u r n low made idle none =
         let e : Entry = asks (answered_word_of client o r) r n in
         let test : (14 == 14) && ((answered_word_of client o r == answered_word_of client o r) && nat_lt r (readers o)) ≡ true = (λ i. eq-eqb 14 14 refl i && (eq-eqb (answered_word_of client o r) (answered_word_of client o r) refl i && less r (readers o) low i)) in
-        writer_step t u e made none ∙ (ap (λ (g : Bool). events_of_hand client o known t ++ answered_event client o g e.opens e.step) idle ∙ ap (λ (c : Bool). events_of_hand client o known t ++ cond {A = List (WriterEvent U R)} c (Told r n ∷ []) []) test)
+        step_event hand t u e made none ∙ (ap (λ (g : Bool). events_of_hand client o known t ++ answered_event client o g e.opens e.step) idle ∙ ap (λ (c : Bool). events_of_hand client o known t ++ cond {A = List (WriterEvent U R)} c (Told r n ∷ []) []) test)
       where
         less : (a c : ℕ) → a < c → nat_lt a c ≡ true
         less a c h = grind (arith, nat_tests)
@@ -216,22 +254,9 @@ module _ {C : Type 0} (client : Client C) (o : Origin (Signals C)) where
     -- where the answers and the log only grow
     module _ (grows : (s : S) (e : Entry) → (more : List (Q × A)) × (known.answers (known.next s e) ≡ known.answers s ++ more)) where
       -- entries that are none of `reached` add what they answer
-      silent_events : (s : S) (es : List Entry) → AreSilent es → (more : List (Q × A)) × (known.answers (state_after known.next s es) ≡ known.answers s ++ more) × (reader_events client o known s es ≡ answer_events more)
-      silent_events s [] silent = ([], sym (append-nil (known.answers s)), refl)
-      silent_events s (e ∷ es) silent =
-          let g = grows s e in let rest = silent_events (known.next s e) es silent.1 in (
-            g.0 ++ rest.0,
-            rest.1 ∙ (ap (λ (l : List (Q × A)). l ++ rest.0) g.1 ∙ append_assoc (known.answers s) g.0 rest.0),
-            (λ i. ((λ j. answer_events (gained_is (known.answers s) g.0 (known.answers (known.next s e)) g.1 j) ++ no_event (known.is_out s) e silent.0 j) ∙ append-nil (answer_events g.0)) i ++ rest.2 i) ∙ sym (answer_events-append g.0 rest.0),
-          )
-
       pub answers_are_events : (t u : Token (Signals C)) (es : List Entry) (new : List (Q × A)) → u ≡ adding t es → AreSilent es → known.answers (knows u) ≡ known.answers (knows t) ++ new
           → events_of_pass client o known u ≡ events_of_pass client o known t ++ answer_events new
-      answers_are_events t u es new made silent answers =
-          let s = silent_events (knows t) es silent in
-          let after : known.answers (knows u) ≡ known.answers (knows t) ++ s.0 = ap (λ (v : Token (Signals C)). known.answers (knows v)) made ∙ (ap known.answers (state-append known.next (known.start (number t)) (did t) es) ∙ s.1) in
-          let same : s.0 ≡ new = append_cancel_left (known.answers (knows t)) s.0 new (sym after ∙ answers) in
-          pass_events_grow t u es made ∙ ap (λ (xs : List (ReaderEvent Q A)). events_of_pass client o known t ++ xs) (s.2 ∙ ap answer_events same)
+      answers_are_events = items_are_events pass grows IsSilent (λ s. no_event (known.is_out s))
 
       -- and where they answer nothing, nothing
       pub no_events : (t u : Token (Signals C)) (es : List Entry) → u ≡ adding t es → AreSilent es → known.answers (knows u) ≡ known.answers (knows t) → events_of_pass client o known u ≡ events_of_pass client o known t
@@ -239,19 +264,6 @@ module _ {C : Type 0} (client : Client C) (o : Origin (Signals C)) where
 
     module _ (grows : (s : S) (e : Entry) → (more : List (U × R)) × (known.log (known.next s e) ≡ known.log s ++ more)) where
       -- entries that are none of `answered` add the updates that they answer
-      quiet_events : (s : S) (es : List Entry) → AreQuiet es → (more : List (U × R)) × (known.log (state_after known.next s es) ≡ known.log s ++ more) × (writer_events client o known s es ≡ update_events more)
-      quiet_events s [] quiet = ([], sym (append-nil (known.log s)), refl)
-      quiet_events s (e ∷ es) quiet =
-          let g = grows s e in let rest = quiet_events (known.next s e) es quiet.1 in (
-            g.0 ++ rest.0,
-            rest.1 ∙ (ap (λ (l : List (U × R)). l ++ rest.0) g.1 ∙ append_assoc (known.log s) g.0 rest.0),
-            (λ i. ((λ j. update_events (gained_is (known.log s) g.0 (known.log (known.next s e)) g.1 j) ++ no_answer (known.is_idle s) e.opens e.step quiet.0 j) ∙ append-nil (update_events g.0)) i ++ rest.2 i) ∙ sym (update_events-append g.0 rest.0),
-          )
-
       pub updates_are_events : (t u : Token (Signals C)) (es : List Entry) (new : List (U × R)) → u ≡ adding t es → AreQuiet es → known.log (knows u) ≡ known.log (knows t) ++ new
           → events_of_hand client o known u ≡ events_of_hand client o known t ++ update_events new
-      updates_are_events t u es new made quiet log =
-          let s = quiet_events (knows t) es quiet in
-          let after : known.log (knows u) ≡ known.log (knows t) ++ s.0 = ap (λ (v : Token (Signals C)). known.log (knows v)) made ∙ (ap known.log (state-append known.next (known.start (number t)) (did t) es) ∙ s.1) in
-          let same : s.0 ≡ new = append_cancel_left (known.log (knows t)) s.0 new (sym after ∙ log) in
-          hand_events_grow t u es made ∙ ap (λ (xs : List (WriterEvent U R)). events_of_hand client o known t ++ xs) (s.2 ∙ ap update_events same)
+      updates_are_events = items_are_events hand grows (λ (e : Entry). OpensNone e.opens) (λ s e. no_answer (known.is_idle s) e.opens e.step)
