@@ -14,8 +14,8 @@ use Rattle.ck_arraylaw.specs.Client.{array_start, first_reader, local_after, ans
 use Rattle.ck_arraylaw.specs.Host.{Host, floor_word, base_word}
 use Rattle.ck_arraylaw.specs.Layout.{members_at}
 use Rattle.ck_arraylaw.specs.Law.{local_in, read_stage_of}
+use Rattle.ck_arraylaw.proofs.Tokens.{reader_after}
 use Rattle.ck_array.specs.Answered.{answers_in, IsOut, IsAnsweredAll}
-use Rattle.ck_array.proofs.Elsewhere.{reader_stays}
 
 pub is_out : (g : ReadStage) → (g ≡ no_read) ⊎ (g ≡ no_read → ⊥)
 is_out no_read = inl refl
@@ -71,7 +71,7 @@ module _ {D : Type 0} (host : Host D) (origin : Origin D) (r : ℕ) where
 
   by_itself : (past : Run) (e : Entry) → AddsAnswer (suc r) (IsOut host origin r) given past e
   by_itself past e =
-      let y = reader_stays f b first_reader (account (suc r) past) in
+      let y = reader_after f b first_reader (account (suc r) past) in
       let next : local (past ++ (suc r, e) ∷ []) ≡ array_next f b (reader y.0) e = local_here past e ∙ ap (λ (x : LocalState). array_next f b x e) y.1 in
       let was : given past ≡ y.0.answers = ap answers_of y.1 in
       ⊎_elim (λ same. inl (ap answers_of next ∙ (same ∙ sym was)))

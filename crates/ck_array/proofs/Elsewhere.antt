@@ -14,6 +14,7 @@ use Rattle.ck_arraylaw.specs.Layout.{array_words}
 use Rattle.ck_arraylaw.specs.Array.{WriterState, ReaderState, LocalState, writer, reader, given_up, released_if, is_section, is_array_word, is_array_item, after_own, after_other, array_next}
 use Rattle.ck_arraylaw.specs.Client.{array_start, first_reader, first_writer, local_after}
 use Rattle.ck_arraylaw.specs.Known.{knows}
+use Rattle.ck_arraylaw.proofs.Tokens.{reader_after, writer_after}
 use Rattle.ck_array.specs.Reads.{resting}
 
 below : (a b c : ℕ) → c < a → leb a c && ltb c b ≡ false
@@ -22,29 +23,13 @@ below a b c h = grind (arith, nat_tests)
 pub beyond : (a b c : ℕ) → b ≤ c → leb a c && ltb c b ≡ false
 beyond a b c h = grind (arith, nat_tests)
 
--- a token stays the writer's, or a reader's
-pub writer_stays : (f b : ℕ) (p : WriterState) (es : List Entry) → (q : WriterState) × (state_after (array_next f b) (writer p) es ≡ writer q)
-writer_stays f b p [] = (p, refl)
-writer_stays f b p (e ∷ es) = let n = one (is_array_word f b e.step) in let r = writer_stays f b n.0 es in (r.0, ap (λ (h : LocalState). state_after (array_next f b) h es) n.1 ∙ r.1)
-  where
-    one : (own : Bool) → (q : WriterState) × (cond own (after_own f b (writer p) e) (after_other f b (writer p) e) ≡ writer q)
-    one true = (_, refl)
-    one false = (_, refl)
-
-pub reader_stays : (f b : ℕ) (y : ReaderState) (es : List Entry) → (z : ReaderState) × (state_after (array_next f b) (reader y) es ≡ reader z)
-reader_stays f b y [] = (y, refl)
-reader_stays f b y (e ∷ es) = let n = one (is_array_word f b e.step) in let r = reader_stays f b n.0 es in (r.0, ap (λ (h : LocalState). state_after (array_next f b) h es) n.1 ∙ r.1)
-  where
-    one : (own : Bool) → (z : ReaderState) × (cond own (after_own f b (reader y) e) (after_other f b (reader y) e) ≡ reader z)
-    one true = (_, refl)
-    one false = (_, refl)
-
+-- the writer's token has number 0, and a reader's another
 pub writer_number : (f b n : ℕ) (es : List Entry) (p : WriterState) → local_after f b n es ≡ writer p → n ≡ 0
 writer_number f b zero es p is = refl
-writer_number f b (suc r) es p is = absurd (let w = reader_stays f b first_reader es in let z : writer p ≡ reader w.0 = sym is ∙ w.1 in cc)
+writer_number f b (suc r) es p is = absurd (let w = reader_after f b first_reader es in let z : writer p ≡ reader w.0 = sym is ∙ w.1 in cc)
 
 pub reader_number : (f b n : ℕ) (es : List Entry) (y : ReaderState) → local_after f b n es ≡ reader y → (r : ℕ) × (n ≡ suc r)
-reader_number f b zero es y is = absurd (let w = writer_stays f b first_writer es in let z : reader y ≡ writer w.0 = sym is ∙ w.1 in cc)
+reader_number f b zero es y is = absurd (let w = writer_after f b first_writer es in let z : reader y ≡ writer w.0 = sym is ∙ w.1 in cc)
 reader_number f b (suc r) es y is = (r, refl)
 
 module _ {D : Type 0} (h : Host D) (o : Origin D) where
@@ -69,20 +54,19 @@ module _ {D : Type 0} (h : Host D) (o : Origin D) where
   pub writer_still : (p : WriterState) (e : Entry) → is_array_word f b e.step ≡ false → e.item ≡ [] → array_next f b (writer p) e ≡ writer p
   writer_still p e off none = ap (λ (own : Bool). cond own (after_own f b (writer p) e) (after_other f b (writer p) e)) off ∙ ap (λ (item : List ℕ). writer (released_if f b (is_array_item f b item) p)) none
 
-  readers_still : (answers : List (List ℕ)) (es : List Entry) → AreElsewhere es → state_after (array_next f b) (reader (resting answers)) es ≡ reader (resting answers)
-  readers_still answers [] off = refl
-  readers_still answers (e ∷ es) off = ap (λ (x : LocalState). state_after (array_next f b) x es) (reader_still answers e off.0) ∙ readers_still answers es off.2
+  -- what each such step leaves as it is, a token that made such steps has still
+  stays : (x : LocalState) → ((e : Entry) → is_array_word f b e.step ≡ false → e.item ≡ [] → array_next f b x e ≡ x) → (es : List Entry) → AreElsewhere es → state_after (array_next f b) x es ≡ x
+  stays x still [] off = refl
+  stays x still (e ∷ es) off = ap (λ (z : LocalState). state_after (array_next f b) z es) (still e off.0 off.1) ∙ stays x still es off.2
 
-  writers_still : (p : WriterState) (es : List Entry) → AreElsewhere es → state_after (array_next f b) (writer p) es ≡ writer p
-  writers_still p [] off = refl
-  writers_still p (e ∷ es) off = ap (λ (x : LocalState). state_after (array_next f b) x es) (writer_still p e off.0 off.1) ∙ writers_still p es off.2
+  token_stays : (x : LocalState) → ((e : Entry) → is_array_word f b e.step ≡ false → e.item ≡ [] → array_next f b x e ≡ x) → (t u : Token D) (es : List Entry) → u ≡ adding t es → AreElsewhere es → knows h o t ≡ x → knows h o u ≡ x
+  token_stays x still t u es made off local = ap (λ (v : Token D). knows h o v) made ∙ (state-append (array_next f b) (array_start (number t)) (did t) es ∙ (ap (λ (z : LocalState). state_after (array_next f b) z es) local ∙ stays x still es off))
 
-  -- a token that made such steps
   pub pass_stays : (t u : Token D) (es : List Entry) (answers : List (List ℕ)) → u ≡ adding t es → AreElsewhere es → knows h o t ≡ reader (resting answers) → knows h o u ≡ reader (resting answers)
-  pass_stays t u es answers made off local = ap (λ (x : Token D). knows h o x) made ∙ (state-append (array_next f b) (array_start (number t)) (did t) es ∙ (ap (λ (x : LocalState). state_after (array_next f b) x es) local ∙ readers_still answers es off))
+  pass_stays t u es answers = token_stays (reader (resting answers)) (λ e off none. reader_still answers e off) t u es
 
   pub hand_stays : (t u : Token D) (es : List Entry) (p : WriterState) → u ≡ adding t es → AreElsewhere es → knows h o t ≡ writer p → knows h o u ≡ writer p
-  hand_stays t u es p made off local = ap (λ (x : Token D). knows h o x) made ∙ (state-append (array_next f b) (array_start (number t)) (did t) es ∙ (ap (λ (x : LocalState). state_after (array_next f b) x es) local ∙ writers_still p es off))
+  hand_stays t u es p = token_stays (writer p) (writer_still p) t u es
 
   abbrev pub IsBelow : Entry → Type 0
   IsBelow e = (word_of e.step < base_of o) × (e.item ≡ [])

@@ -20,10 +20,10 @@ use Rattle.ck_arraylaw.specs.Host.{floor_word, base_word}
 use Rattle.ck_arraylaw.specs.Known.{knows}
 use Rattle.ck_arraylaw.specs.Laws.{log_goes_on, answers_go_on, replied-append}
 use Rattle.ck_arraylaw.specs.Reached.{with_signals}
+use Rattle.ck_arraylaw.proofs.Tokens.{reader_after}
 use Rattle.ck_array.specs.Ends.{edits_by}
 use Rattle.ck_array.specs.Events.{answer_of, is_no_read, is_between, is_idle_writer, known, pass_events, hand_events}
 use Rattle.ck_array.proofs.Answering.{step_adds}
-use Rattle.ck_array.proofs.Elsewhere.{reader_stays}
 
 -- a reader is between two calls exactly where it has no read
 pub no_read_is : (g : ReadStage) → is_no_read g ≡ true → g ≡ no_read
@@ -74,7 +74,7 @@ module _ (o : Origin (Signals ArrayClient)) where
   -- a reader's step answers at most one read
   pub adds_one : (r : ℕ) (done : List Entry) (e : Entry) → AddsOne array o (known o) (state_after (known o).next ((known o).start (suc r)) done) e
   adds_one r done e =
-      let y = reader_stays f b first_reader done in
+      let y = reader_after f b first_reader done in
       let h : LocalState = state_after (known o).next ((known o).start (suc r)) done in
       let at : h ≡ reader y.0 = y.1 in
       subst (λ (x : LocalState). AddsOne array o (known o) x e) (sym at)

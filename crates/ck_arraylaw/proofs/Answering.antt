@@ -21,7 +21,8 @@ use Rattle.ck_arraylaw.specs.Law.{read_stage_of, until, IsReading}
 use Rattle.ck_arraylaw.proofs.Members.{few_lists}
 use Rattle.ck_arraylaw.proofs.Words.{load_is, list_stays}
 use Rattle.ck_arraylaw.proofs.Collecting.{IsCollecting, collects_on, region_at_is, loaded}
-use Rattle.ck_arraylaw.proofs.Holding.{reader_after, floor, base, IsTrue, words, local, Holds, may, fits, local_next, local_else, words_same, held}
+use Rattle.ck_arraylaw.proofs.Tokens.{reader_after}
+use Rattle.ck_arraylaw.proofs.Holding.{floor, base, IsTrue, words, local, Holds, may, fits, local_next, local_else, words_same, held}
 use Rattle.ck_arraylaw.proofs.Reading.{Looks, Begins, looks_on}
 
 last_same : {A : Type 0} (xs : List A) (a b : A) → xs ++ a ∷ [] ≡ xs ++ b ∷ [] → a ≡ b

@@ -7,7 +7,7 @@ use Rattle.ck_run.specs.declared.account.Entry.{Entry}
 use Rattle.ck_run.specs.Run.{Run, Fits, words_after, replay, account}
 use Rattle.ck_run.specs.Range.{word_of}
 use Rattle.ck_run.specs.Rule.{IsRun, unused}
-use Rattle.ck_run.specs.Machine.{state_after, follows_of, grow}
+use Rattle.ck_run.specs.Machine.{follows_of, grow}
 use Rattle.ck_run.proofs.Accounts.{account_grown}
 use Rattle.ck_run.proofs.Law.{obeys_at, state-append}
 use Rattle.ck_run.proofs.Lists.{All-weaker}
@@ -29,6 +29,7 @@ use Rattle.ck_arraylaw.specs.Calls.{is_single_load}
 use Rattle.ck_arraylaw.specs.Client.{array_start, first_writer, local_after, BeginsCommit, TakesFree, array}
 use Rattle.ck_arraylaw.specs.Regions.{IsReplaced, IsStanding, place_in, regions}
 use Rattle.ck_arraylaw.specs.Law.{local_in, Unpublished}
+use Rattle.ck_arraylaw.proofs.Tokens.{reader_after}
 use Rattle.ck_arraylaw.proofs.Words.{in_range, range_in, true_false, leaves, long_after, after_load, after_any_load}
 use Rattle.ck_arraylaw.proofs.Writing.{AddsNone, Unfinished, WriterInvariant, words_stay, own_kept, other_kept}
 
@@ -41,18 +42,6 @@ reads_load base ws (at_member at n members) opens e m = after_load (base + at + 
 pub reader_loads : (floor base : ℕ) (ws : List ℕ) (y : ReaderState) (e : Entry) (b : Bool) → MayRead floor base b y e → words_after ws e.step ≡ ws
 reader_loads floor base ws y e true m = after_any_load floor base ws e.step m
 reader_loads floor base ws y e false m = reads_load base ws y.stage e.opens e m
-
--- a reader stays one
-pub reader_next : (floor base : ℕ) (y : ReaderState) (e : Entry) → (z : ReaderState) × (array_next floor base (reader y) e ≡ reader z)
-reader_next floor base y e = go (is_array_word floor base e.step)
-  where
-    go : (b : Bool) → (z : ReaderState) × (cond b (after_own floor base (reader y) e) (after_other floor base (reader y) e) ≡ reader z)
-    go true = (_, refl)
-    go false = (_, refl)
-
-pub reader_after : (floor base : ℕ) (y : ReaderState) (es : List Entry) → (z : ReaderState) × (state_after (array_next floor base) (reader y) es ≡ reader z)
-reader_after floor base y [] = (y, refl)
-reader_after floor base y (e ∷ es) = let n = reader_next floor base y e in let r = reader_after floor base n.0 es in (r.0, ap (λ (h : LocalState). state_after (array_next floor base) h es) n.1 ∙ r.1)
 
 module _ {D : Type 0} (host : Host D) (within : IsWithin array host.client host.place host.part) (law : Reclamation D) (pieces : ReclaimsPieces (regions host)) (origin : Origin D) where
   abbrev pub floor : ℕ

@@ -26,7 +26,8 @@ use Rattle.ck_arraylaw.specs.Law.{read_stage_of, Unpublished}
 use Rattle.ck_arraylaw.proofs.Words.{in_range, leaves, store_is, after_load}
 use Rattle.ck_arraylaw.proofs.Linked.{writer_with}
 use Rattle.ck_arraylaw.proofs.Writing.{Unfinished, apart_places}
-use Rattle.ck_arraylaw.proofs.Holding.{reader_after, floor, base, place, IsTrue, words, local, pending, Holds, words_next, local_next, not_on, writer_may, is_reusable, reader_leaves}
+use Rattle.ck_arraylaw.proofs.Tokens.{reader_after}
+use Rattle.ck_arraylaw.proofs.Holding.{floor, base, place, IsTrue, words, local, pending, Holds, words_next, local_next, not_on, writer_may, is_reusable, reader_leaves}
 
 no_more : (a : ℕ) → a + 0 ≡ a
 no_more a = omega arith

@@ -1,5 +1,5 @@
 -- A token of a domain whose client holds the array, and its steps.
-use Rattle.std.proofs.Common.{◌≡◌, ℕ, ◌+◌, le_refl, [], ◌∷◌, ◌++◌, sym, ap, ◌∙◌, subst, arith}
+use Rattle.std.proofs.Common.{◌≡◌, ℕ, ◌+◌, le_refl, Bool, true, false, cond, List, [], ◌∷◌, ◌++◌, refl, sym, ap, ◌∙◌, subst, arith}
 use Rattle.ck_run.specs.declared.account.Entry.{Entry}
 use Rattle.ck_run.specs.declared.account.Account.{Account}
 use Rattle.ck_run.specs.Rule.{unused}
@@ -14,9 +14,29 @@ use Rattle.ck_epoch.specs.Ends.{IsDomainToken}
 use Rattle.ck_epoch.specs.Calls.{MayFollow}
 use Rattle.ck_epoch.specs.Within.{IsWithin}
 use Rattle.ck_arraylaw.specs.Host.{Host, floor_word, base_word, inner}
-use Rattle.ck_arraylaw.specs.Array.{array_next, array_may}
+use Rattle.ck_arraylaw.specs.Array.{WriterState, ReaderState, LocalState, writer, reader, is_array_word, after_own, after_other, array_next, array_may}
 use Rattle.ck_arraylaw.specs.Client.{array_start, TakesFree, array}
 use Rattle.ck_arraylaw.specs.Known.{knows}
+
+-- the writer's state stays one, and so does a reader's: what each entry keeps, all keep
+stays : {T : Type 0} (floor base : ℕ) (of : T → LocalState) → ((own : Bool) (t : T) (e : Entry) → (u : T) × (cond own (after_own floor base (of t) e) (after_other floor base (of t) e) ≡ of u))
+    → (t : T) (es : List Entry) → (u : T) × (state_after (array_next floor base) (of t) es ≡ of u)
+stays floor base of one t [] = (t, refl)
+stays floor base of one t (e ∷ es) = let n = one (is_array_word floor base e.step) t e in let r = stays floor base of one n.0 es in (r.0, ap (λ (h : LocalState). state_after (array_next floor base) h es) n.1 ∙ r.1)
+
+pub writer_after : (floor base : ℕ) (p : WriterState) (es : List Entry) → (q : WriterState) × (state_after (array_next floor base) (writer p) es ≡ writer q)
+writer_after floor base = stays floor base writer one
+  where
+    one : (own : Bool) (p : WriterState) (e : Entry) → (q : WriterState) × (cond own (after_own floor base (writer p) e) (after_other floor base (writer p) e) ≡ writer q)
+    one true p e = (_, refl)
+    one false p e = (_, refl)
+
+pub reader_after : (floor base : ℕ) (y : ReaderState) (es : List Entry) → (z : ReaderState) × (state_after (array_next floor base) (reader y) es ≡ reader z)
+reader_after floor base = stays floor base reader one
+  where
+    one : (own : Bool) (y : ReaderState) (e : Entry) → (z : ReaderState) × (cond own (after_own floor base (reader y) e) (after_other floor base (reader y) e) ≡ reader z)
+    one true y e = (_, refl)
+    one false y e = (_, refl)
 
 module _ {D : Type 0} (h : Host D) (o : Origin D) where
   -- the word of the domain at which a word of the array lies
