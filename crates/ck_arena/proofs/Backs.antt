@@ -1,17 +1,19 @@
 -- The answers that wait, one after the other.
 use Rattle.std.proofs.Common.{◌≡◌, ℕ, zero, suc, ◌-◌, List, [], ◌∷◌, ◌++◌, length, length-drop, length-append, drop, refl, sym, ap, ◌∙◌, subst, arith}
+use Rattle.std.specs.FinSet as set
 use Rattle.std.specs.List.Sorted.{IsPermutation}
 use Rattle.std.proofs.lemmas.List.{length-map, drop_all}
+use Rattle.std.proofs.lemmas.List.Elements.{All-head, All-tail}
 use Rattle.std.proofs.lemmas.List.Sorted.{All-permutation}
 use Rattle.ck_run.proofs.Lists.{first_is, rest_is}
 use Rattle.ck_words.specs.declared.back.Back.{Back}
-use Rattle.ck_words.specs.Buddies.{Arena, Piece}
+use Rattle.ck_words.specs.Buddies.{Arena, Piece, piece, with_pieces_out, IsPieceOut}
 use Rattle.ck_epoch.specs.declared.item.Item.{Item}
 use Rattle.ck_epoch.specs.declared.item.Retired.{Retired}
 use Rattle.ck_epoch.specs.Lists.{homes}
 use Rattle.ck_epoch.specs.State.{Retirement, TokenState, queue}
-use Rattle.ck_arena.specs.Arena.{unreturned, AreBacks, AreItems, IsKept}
-use Rattle.ck_arena.proofs.Giving.{kept_reordered}
+use Rattle.ck_arena.specs.Arena.{retired_piece, unreturned, AreBacks, GoHome, IsOutBeside, KeepsAll}
+use Rattle.ck_arena.proofs.Giving.{given, kept_reordered}
 
 drop_one : (j : ℕ) (xs : List Retired) → drop 1 (drop j xs) ≡ drop (suc j) xs
 drop_one zero xs = refl
@@ -55,15 +57,23 @@ module _ (home : Item → Back) where
       let many : length u.dispatched - length waiting ≡ length (queue t.dispatched) = omega arith in
       (λ i. drop (many i) (more i)) ∙ drop_past (queue t.dispatched) items
 
-  -- The answers that wait, and the arena, once some pending items were dispatched and others stay pending
-  pub after_dispatch : (IsItem : Item → Type 0) (place : ℕ) (present : Piece) (t u : TokenState) (items left : List Retired) (waiting : List Back) (a : Arena) → AreItems IsItem (unreturned t []) → IsKept IsItem place present (unreturned t []) a
-      → waiting ≡ homes home items → queue u.dispatched ≡ queue t.dispatched ++ items → queue u.pending ≡ left → IsPermutation (queue t.pending) (items ++ left)
-      → IsKept IsItem place present (unreturned u waiting) a × AreItems IsItem (unreturned u waiting) × AreBacks home u waiting
-  after_dispatch IsItem place present t u items left waiting a own kept are more rest moved =
-      let last = last_ones t u items waiting are more in
-      let list : unreturned u waiting ≡ items ++ left = (λ i. last i ++ rest i) in
-      let own_now = subst (AreItems IsItem) (none_waits t) own in (
-        subst (λ (ks : List Retired). IsKept IsItem place present ks a) (sym list) (kept_reordered IsItem place present (queue t.pending) (items ++ left) a own_now moved (subst (λ (ks : List Retired). IsKept IsItem place present ks a) (none_waits t) kept)),
-        subst (AreItems IsItem) (sym list) (All-permutation (λ (k : Retired). IsItem k.item) (queue t.pending) (items ++ left) moved own_now),
-        are ∙ ap (homes home) (sym last),
+  -- the arena, once some pending items were dispatched and others stay pending
+  pub after_dispatch : (IsItem : Item → Type 0) (place : ℕ) (present : Piece) (t u : TokenState) (items left : List Retired) (before waiting : List Back) (a : Arena) → before ≡ [] → waiting ≡ before ++ homes home items
+      → queue u.dispatched ≡ queue t.dispatched ++ items → queue u.pending ≡ left → IsPermutation (queue t.pending) (items ++ left) → KeepsAll IsItem place present (unreturned t before) a → KeepsAll IsItem place present (unreturned u waiting) a
+  after_dispatch IsItem place present t u items left before waiting a given wait more rest moved kept =
+      let last = last_ones t u items waiting (wait ∙ ap (λ (ws : List Back). ws ++ homes home items) given) more in
+      let pending = subst (λ (ks : List Retired). KeepsAll IsItem place present ks a) (ap (unreturned t) given ∙ none_waits t) kept in
+      subst (λ (ks : List Retired). KeepsAll IsItem place present ks a) (λ i. sym last i ++ sym rest i)
+      (kept_reordered IsItem place present (queue t.pending) (items ++ left) a pending.1 moved pending.0, All-permutation (λ (k : Retired). IsItem k.item) (queue t.pending) (items ++ left) moved pending.1)
+
+  -- the arena, once the first of them is given back
+  pub one_given : (IsItem : Item → Type 0) (place : ℕ) (present : Piece) (t : TokenState) (b : Back) (bs : List Back) (a : Arena) → GoHome home place → AreBacks home t (b ∷ bs) → KeepsAll IsItem place present (unreturned t (b ∷ bs)) a
+      → IsPieceOut a (piece b.at b.log) × ((a' : Arena) → a' ≡ with_pieces_out a (set.remove a.out (piece b.at b.log)) → KeepsAll IsItem place present (unreturned t bs) a')
+  one_given IsItem place present t b bs a own_homes backs kept =
+      let next = next_is t b bs backs in let k = next.0 in
+      let same : piece b.at b.log ≡ retired_piece place k = ap (λ (x : Back). piece x.at x.log) next.1 ∙ own_homes k in
+      let all = subst (λ (ks : List Retired). KeepsAll IsItem place present ks a) next.2 kept in
+      let mine = All-head (λ (j : Retired). IsItem j.item) k (unreturned t bs) all.1 in (
+        subst (IsPieceOut a) (sym same) (All-head (IsOutBeside IsItem place a present) k (unreturned t bs) all.0.retired mine).0,
+        λ a' is. (given IsItem place present k (unreturned t bs) a a' mine all.0 (is ∙ ap (λ (p : Piece). with_pieces_out a (set.remove a.out p)) same), All-tail (λ (j : Retired). IsItem j.item) k (unreturned t bs) all.1),
       )

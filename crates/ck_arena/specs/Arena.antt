@@ -43,6 +43,14 @@ module _ (IsItem : Item → Type 0) (place : ℕ) where
 abbrev pub AreItems : (Item → Type 0) → List Retired → Type 0
 AreItems IsItem items = All (λ (k : Retired). IsItem k.item) items
 
+-- the arena is kept in a domain of its own, where all items are the structure's
+abbrev pub KeepsAll : (Item → Type 0) → ℕ → Piece → List Retired → Arena → Type 0
+KeepsAll IsItem place present items a = IsKept IsItem place present items a × AreItems IsItem items
+
+-- the home of each item is its own piece
+abbrev pub GoHome : (Item → Back) → ℕ → Type 0
+GoHome home place = (k : Retired) → piece (home k.item).at (home k.item).log ≡ retired_piece place k
+
 -- every range of this length at a multiple of it has a word that is out
 abbrev pub HasNoneFree : Arena → ℕ → Type 0
 HasNoneFree a log = (at : ℕ) → IsAlignedIn a (piece at log) → HasWordOut a (piece at log)

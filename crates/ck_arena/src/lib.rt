@@ -1,6 +1,8 @@
-//! What the arena of a structure over the epochs says of the pieces that its writer retired, and why a call finds none free.
+//! What the arena of a structure over the epochs says of the pieces that its writer retired, how they go back to it, and why a call finds none
+//! free.
 #![tactic(auto)]
 
 mod found;
+mod returning;
 
-pub use found::found_active;
+pub use returning::{Pieces, give_all, poll_all};
