@@ -1,13 +1,15 @@
 -- Looks that are made again until one answers.
 use Rattle.std.specs.Prelude.{◌≡◌, ℕ, ◌+◌, List, [], ◌∷◌, length}
+use Rattle.ck_run.specs.Run.{Run}
 use Rattle.ck_epoch.specs.State.{Origin, Token}
 use Rattle.ck_signal.specs.declared.signals.Signals.{Signals}
 use Rattle.ck_history.specs.declared.log.Look.{Look}
 use Rattle.ck_history.specs.declared.log.Look.TheVariants.{Again}
 use Rattle.ck_htlaw.specs.declared.client.HtClient.{HtClient}
 use Rattle.ck_htlaw.specs.Known.{knows}
-use Rattle.ck_htlaw.specs.Law.{retries_of}
+use Rattle.ck_htlaw.specs.Law.{IsTableRun, retries_of}
 use Rattle.ck_htlaw.specs.Reached.{with_signals}
+use Rattle.ck_htread.specs.Answered.{StandTogether}
 use Rattle.ck_htread.specs.Reading.{Looks}
 
 module _ (o : Origin (Signals HtClient)) where
@@ -24,3 +26,5 @@ module _ (o : Origin (Signals HtClient)) where
     pub looks : Looks with_signals o key last result u
     -- it has met so many that were to be made again
     pub retries : retries_of (knows with_signals o u).local ≡ retries_of (knows with_signals o t).local + length tokens
+    -- where no other token's step is among its steps, the first look answers
+    pub once : (past run : Run) → IsTableRun with_signals o run → StandTogether t u past run → tokens ≡ []

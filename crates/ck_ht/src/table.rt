@@ -31,7 +31,7 @@ ghost use Rattle.ck_htlaw.specs.Layout.{counters_of, log_of, table_words};
 ghost use Rattle.ck_htlaw.specs.Linearized.{map_after};
 ghost use Rattle.ck_htlaw.specs.Reached.{with_signals};
 ghost use Rattle.ck_htlaw.specs.Table.{WriterState};
-ghost use Rattle.ck_htread.specs.Answered.{HasAnswered};
+ghost use Rattle.ck_htread.specs.Answered.{HasAnswered, AnswersAlone};
 ghost use Rattle.ck_htread.specs.Reading.{Looks, look_result, answered_by, retries_by, totals_of};
 ghost use Rattle.ck_htwrite.specs.Updates.{RemoveSteps};
 ghost use Rattle.ck_htwrite.specs.Writes.{WriterIs, opened};
@@ -265,7 +265,8 @@ impl Ht {
     }
 
     /// The value of the key, or that it is absent, or that the look is to be made again, as `ck_ht_get_spmc`, but without its loop. An
-    /// answer is that of the map at a moment between the look's load of the root and its last load.
+    /// answer is that of the map at a moment between the look's load of the root and its last load. Where no other token steps between these
+    /// two it always answers, and what the map gives then.
     pub fn look(&self, pass: &mut HtPass, key: Key) -> Look
         requires table { table pass.old.token ≡ self.now }
         requires section { 0 < depth pass.old.token }
@@ -278,6 +279,7 @@ impl Ht {
         ensures placed { (x : Option ℕ) → result ≡ look_result x → HasAnswered with_signals self.now.origin pass.new.token (length (knows with_signals self.now.origin pass.old.token).looks) key x }
         ensures retries { retries_of (knows with_signals self.now.origin pass.new.token).local ≡ retries_of (knows with_signals self.now.origin pass.old.token).local + retries_by result }
         ensures again { (before after : ℕ) → result ≡ Again before after → before < after }
+        ensures alone { AnswersAlone with_signals self.now.origin pass.old.token key result pass.new.token }
         ensures ready { IsPassReady self.now.origin pass.new }
         ensures calls { pass.new.calls ≡ pass.old.calls + length (answered_by key result) }
         ensures depth { depth pass.new.token ≡ depth pass.old.token }
@@ -285,7 +287,8 @@ impl Ht {
         ck_htread::look(&self.domain, pass, key)
     }
 
-    /// The value of the key, or that it is absent: it looks until a look answers, as `ck_ht_get_spmc`.
+    /// The value of the key, or that it is absent: it looks until a look answers, as `ck_ht_get_spmc`. Where no other token steps while it
+    /// does, the answer is what the map gives then.
     pub fn get<R: Wait>(&self, rt: &R, pass: &mut HtPass, key: Key) -> Option<u64>
         requires table { table pass.old.token ≡ self.now }
         requires section { 0 < depth pass.old.token }
@@ -296,6 +299,7 @@ impl Ht {
         ensures looks { (knows with_signals self.now.origin pass.new.token).looks ≡ (knows with_signals self.now.origin pass.old.token).looks ++ (key, result) ∷ [] }
         ensures events { pass_events self.now.origin pass.new.token ≡ pass_events self.now.origin pass.old.token ++ Answered key result ∷ [] }
         ensures placed { HasAnswered with_signals self.now.origin pass.new.token (length (knows with_signals self.now.origin pass.old.token).looks) key result }
+        ensures alone { AnswersAlone with_signals self.now.origin pass.old.token key (look_result result) pass.new.token }
         ensures ready { IsPassReady self.now.origin pass.new }
         ensures calls { pass.new.calls ≡ pass.old.calls + 1 }
         ensures depth { depth pass.new.token ≡ depth pass.old.token }

@@ -5,7 +5,7 @@ use Rattle.ck_history.specs.declared.log.Look.TheVariants.{Found, Absent}
 use Rattle.ck_htlaw.specs.Reached.{with_signals}
 use Rattle.ck_htread.specs.Answered.{HasAnswered}
 use Rattle.ck_ht.specs.Events.{Reading}
-use Rattle.ck_ht.proofs.Repeating.{none_looked, looks_again, gets}
+use Rattle.ck_ht.proofs.Repeating.{none_looked, looks_again, last_alone, gets}
 use Rattle.ck_ht.proofs.table.Ht.get.Goals as goal
 
 pub returns-in-Found-clause-placed : goal.returns-in-Found-clause-placed
@@ -33,7 +33,7 @@ returns-in-Absent-clause-events g c = c.in-Absent.ensures.events ∙ ap (λ (es 
 pub loop-preserved : goal.loop-preserved
 loop-preserved g c =
     let e = c.in-Again.ensures in
-    looks_again c.args.self.now.origin c.args.key c.args.pass.now c.loop.pass c.look.new.pass c.in-Again.before c.in-Again.after c.loop.invariant e.table e.depth e.calls e.ready e.looks e.events e.retries e.steps
+    looks_again c.args.self.now.origin c.args.key c.args.pass.now c.loop.pass c.look.new.pass c.in-Again.before c.in-Again.after c.loop.invariant e.table e.depth e.calls e.ready e.looks e.events e.retries e.steps e.alone
 
 pub returns-in-Found-clause-steps : goal.returns-in-Found-clause-steps
 returns-in-Found-clause-steps g c = let e = c.in-Found.ensures in gets c.args.self.now.origin c.args.key c.args.pass.now c.loop.pass (Found c.in-Found.value) c.look.new.pass.token c.loop.invariant e.steps e.retries
@@ -43,3 +43,9 @@ returns-in-Absent-clause-steps g c = let e = c.in-Absent.ensures in gets c.args.
 
 pub loop-init : goal.loop-init
 loop-init g c = none_looked c.args.self.now.origin c.args.key c.args.pass.now c.requires.ready
+
+pub returns-in-Found-clause-alone : goal.returns-in-Found-clause-alone
+returns-in-Found-clause-alone g c = let e = c.in-Found.ensures in last_alone c.args.self.now.origin c.args.key c.args.pass.now c.loop.pass (Found c.in-Found.value) c.look.new.pass.token c.loop.invariant e.steps e.alone
+
+pub returns-in-Absent-clause-alone : goal.returns-in-Absent-clause-alone
+returns-in-Absent-clause-alone g c = let e = c.in-Absent.ensures in last_alone c.args.self.now.origin c.args.key c.args.pass.now c.loop.pass Absent c.look.new.pass.token c.loop.invariant e.steps e.alone

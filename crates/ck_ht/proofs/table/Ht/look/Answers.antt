@@ -7,7 +7,7 @@ use Rattle.ck_htlaw.specs.declared.client.HtClient.{HtClient}
 use Rattle.ck_htlaw.specs.Known.{knows}
 use Rattle.ck_htlaw.specs.Law.{retries_of}
 use Rattle.ck_htlaw.specs.Reached.{with_signals}
-use Rattle.ck_htread.specs.Answered.{HasAnswered}
+use Rattle.ck_htread.specs.Answered.{HasAnswered, AnswersAlone}
 use Rattle.ck_htread.specs.Reading.{IsBetweenLooks, Looks, look_result, answered_by, retries_by}
 use Rattle.ck_events.specs.Events.{answer_events}
 use Rattle.ck_ht.specs.Events.{pass_events}
@@ -31,6 +31,9 @@ pub returns-clause-placed : goal.returns-clause-placed
 returns-clause-placed c = subst
     (λ (t : Table (About (Signals HtClient))). (x : Option ℕ) → c.look.result ≡ look_result x → HasAnswered with_signals t.origin c.look.new.pass.token (length (knows with_signals t.origin c.args.pass.now.token).looks) c.args.key x)
     c.self.view_is c.look.ensures.placed
+
+pub returns-clause-alone : goal.returns-clause-alone
+returns-clause-alone c = subst (λ (t : Table (About (Signals HtClient))). AnswersAlone with_signals t.origin c.args.pass.now.token c.args.key c.look.result c.look.new.pass.token) c.self.view_is c.look.ensures.alone
 
 pub returns-clause-ready : goal.returns-clause-ready
 returns-clause-ready c = subst (λ (t : Table (About (Signals HtClient))). IsBetweenLooks with_signals t.origin c.look.new.pass) c.self.view_is c.look.ensures.between
