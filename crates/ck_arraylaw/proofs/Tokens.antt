@@ -14,29 +14,27 @@ use Rattle.ck_epoch.specs.Ends.{IsDomainToken}
 use Rattle.ck_epoch.specs.Calls.{MayFollow}
 use Rattle.ck_epoch.specs.Within.{IsWithin}
 use Rattle.ck_arraylaw.specs.Host.{Host, floor_word, base_word, inner}
-use Rattle.ck_arraylaw.specs.Array.{WriterState, ReaderState, LocalState, writer, reader, is_array_word, after_own, after_other, array_next, array_may}
+use Rattle.ck_arraylaw.specs.Array.{WriterState, ReaderState, LocalState, writer, reader, written, after_read, released_if, given_up, is_array_word, is_array_item, is_section, after_own, after_other, array_next, array_may}
+use Rattle.ck_arraylaw.specs.Calls.{is_single_load}
 use Rattle.ck_arraylaw.specs.Client.{array_start, TakesFree, array}
 use Rattle.ck_arraylaw.specs.Known.{knows}
 
--- the writer's state stays one, and so does a reader's: what each entry keeps, all keep
-stays : {T : Type 0} (floor base : ℕ) (of : T → LocalState) → ((own : Bool) (t : T) (e : Entry) → (u : T) × (cond own (after_own floor base (of t) e) (after_other floor base (of t) e) ≡ of u))
-    → (t : T) (es : List Entry) → (u : T) × (state_after (array_next floor base) (of t) es ≡ of u)
-stays floor base of one t [] = (t, refl)
-stays floor base of one t (e ∷ es) = let n = one (is_array_word floor base e.step) t e in let r = stays floor base of one n.0 es in (r.0, ap (λ (h : LocalState). state_after (array_next floor base) h es) n.1 ∙ r.1)
+-- the writer's state stays one, and so does a reader's
+module _ (floor base : ℕ) where
+  stays : {T : Type 0} (of : T → LocalState) (own other : T → Entry → T) → ((t : T) (e : Entry) → after_own floor base (of t) e ≡ of (own t e)) → ((t : T) (e : Entry) → after_other floor base (of t) e ≡ of (other t e))
+      → (t : T) (es : List Entry) → (u : T) × (state_after (array_next floor base) (of t) es ≡ of u)
+  stays of own other on off t [] = (t, refl)
+  stays {T} of own other on off t (e ∷ es) = let n = one (is_array_word floor base e.step) in let r = stays of own other on off n.0 es in (r.0, ap (λ (h : LocalState). state_after (array_next floor base) h es) n.1 ∙ r.1)
+    where
+      one : (b : Bool) → (u : T) × (cond b (after_own floor base (of t) e) (after_other floor base (of t) e) ≡ of u)
+      one true = (own t e, on t e)
+      one false = (other t e, off t e)
 
-pub writer_after : (floor base : ℕ) (p : WriterState) (es : List Entry) → (q : WriterState) × (state_after (array_next floor base) (writer p) es ≡ writer q)
-writer_after floor base = stays floor base writer one
-  where
-    one : (own : Bool) (p : WriterState) (e : Entry) → (q : WriterState) × (cond own (after_own floor base (writer p) e) (after_other floor base (writer p) e) ≡ writer q)
-    one true p e = (_, refl)
-    one false p e = (_, refl)
+  pub writer_after : (p : WriterState) (es : List Entry) → (q : WriterState) × (state_after (array_next floor base) (writer p) es ≡ writer q)
+  writer_after = stays writer (λ p e. written base p e.opens p.stage e.step) (λ p e. released_if floor base (is_array_item floor base e.item) p) (λ p e. refl) (λ p e. refl)
 
-pub reader_after : (floor base : ℕ) (y : ReaderState) (es : List Entry) → (z : ReaderState) × (state_after (array_next floor base) (reader y) es ≡ reader z)
-reader_after floor base = stays floor base reader one
-  where
-    one : (own : Bool) (y : ReaderState) (e : Entry) → (z : ReaderState) × (cond own (after_own floor base (reader y) e) (after_other floor base (reader y) e) ≡ reader z)
-    one true y e = (_, refl)
-    one false y e = (_, refl)
+  pub reader_after : (y : ReaderState) (es : List Entry) → (z : ReaderState) × (state_after (array_next floor base) (reader y) es ≡ reader z)
+  reader_after = stays reader (λ y e. after_read floor base (is_single_load e.opens) y e) (λ y e. given_up floor base (is_section floor base e.step) y) (λ y e. refl) (λ y e. refl)
 
 module _ {D : Type 0} (h : Host D) (o : Origin D) where
   -- the word of the domain at which a word of the array lies
