@@ -3,12 +3,12 @@ use Rattle.std.proofs.Common.{◌≡◌, ℕ, ◌+◌, ◌≤◌, ◌⊎◌, Lis
 use Rattle.std.specs.Ordering.{nat_cmp}
 use Rattle.ck_run.specs.declared.account.Entry.{Entry}
 use Rattle.ck_run.specs.declared.account.Step.{Step}
-use Rattle.ck_run.specs.Tokens.{adding, number, origin, table as table_of}
+use Rattle.ck_run.specs.Tokens.{adding, origin, table as table_of}
 use Rattle.ck_history.specs.declared.update.Reply.{Reply}
 use Rattle.ck_history.specs.declared.update.Update.{Update}
 use Rattle.ck_history.specs.Map.{step}
 use Rattle.ck_epoch.specs.State.{Origin, state}
-use Rattle.ck_epoch.specs.Ends.{Writer, IsDomainToken}
+use Rattle.ck_epoch.specs.Ends.{Writer, IsWriting}
 use Rattle.ck_epoch.specs.Within.{IsWithin}
 use Rattle.ck_htplan.specs.declared.cases.Plan.{Plan}
 use Rattle.ck_htlaw.specs.Host.{Host, lies}
@@ -43,7 +43,11 @@ module _ {D F : Type 0} (h : Host D) (o : Origin D) (key value : ℕ) (w : Write
     pub free : (p : WriterState) → WriterIs h o w.token p → IsRebuildDue (lies h o) p (plan_now (lies h o) p key) → HasNoneFree s.arena (needed_log (lies h o) p) → ⊥
     pub ready : Ready h o w' s'
 
-  module _ (within : IsWithin table h.client h.place h.part) (same_origin : origin w.token ≡ o) (part : IsDomainToken h.client w.token) (zero : number w.token ≡ 0) (rd : Ready h o w s) where
+  -- It is to be counted yet
+  abbrev pub IsSettled : (opens : List ℕ) (update : Update ℕ) (Are : WriterState → Plan → List Step → Type 0) (reply : Reply) (w1 : Writer D F) (s' : HtState) → Type 0
+  IsSettled opens update Are reply w1 s' = (w1.calls ≤ w.calls + 1) × (w1.tally ≤ w1.calls) × ((w' : Writer D F) → w' ≡ record w1 { calls = w1.calls + 1; tally = w1.tally + 1 } → IsAnswered opens update Are reply w' s')
+
+  module _ (within : IsWithin table h.client h.place h.part) (same_origin : origin w.token ≡ o) (writing : IsWriting h.client w.token) (rd : Ready h o w s) where
     abbrev l : Layout
     l = lies h o
 
@@ -63,32 +67,38 @@ module _ {D F : Type 0} (h : Host D) (o : Origin D) (key value : ℕ) (w : Write
         (plan : Plan) (planned : plan_now l p key ≡ plan) (apart : (ss : List Step) → IsRebuildDue l p plan → Are p plan ss → ⊥)
         (reply : Reply) (w1 : Writer D F) (s' : HtState) (done : IsDone h o p (expected p plan) (Are p plan) plan opens key value w reply w1 s s') where
       reply_then : reply ≡ expected p (plan_now l p key)
-      reply_then = done_reply h within o w w1 same_origin zero s s' rd (expected p plan) reply (Are p plan) plan opens key value done ∙ ap (expected p) (sym planned)
+      reply_then = done_reply h within o w w1 same_origin writing.first s s' rd (expected p plan) reply (Are p plan) plan opens key value done ∙ ap (expected p) (sym planned)
 
-      pub calls_then : (w.calls ≤ w1.calls) × (w1.calls ≤ w.calls + 1)
-      calls_then = done_calls h within o w w1 same_origin zero s s' rd (expected p plan) reply (Are p plan) plan opens key value done
+      made : (es : List Entry) × Makes l p (Are p plan) plan opens key value es × (w1 ≡ record w { token = adding w.token es; calls = w1.calls })
+      made = done_made h within o w w1 same_origin writing.first s s' rd (expected p plan) reply (Are p plan) plan opens key value done
 
-      -- and its steps are counted
-      pub answered : (w' : Writer D F) (tally : ℕ) → w' ≡ record w1 { calls = w1.calls + 1; tally = tally + 1 } → tally ≡ w1.tally → IsAnswered opens update Are reply w' s'
-      answered w' tally counted told =
-          let made = done_made h within o w w1 same_origin zero s s' rd (expected p plan) reply (Are p plan) plan opens key value done in
-          let more = calls_then in
-          let tallies : tally + 1 ≡ w.tally + 1 = ap (λ (x : ℕ). x + 1) (told ∙ ap (λ (v : Writer D F). v.tally) made.2) in
+      calls_then : (w1.calls ≤ w.calls + 1) × (w1.tally ≤ w1.calls)
+      calls_then =
+          let more = done_calls h within o w w1 same_origin writing.first s s' rd (expected p plan) reply (Are p plan) plan opens key value done in
+          let tallies : w1.tally ≡ w.tally = ap (λ (v : Writer D F). v.tally) made.2 in let few = rd.few in (more.1, omega arith)
+
+      -- and it is counted
+      answered : (w' : Writer D F) → w' ≡ record w1 { calls = w1.calls + 1; tally = w1.tally + 1 } → IsAnswered opens update Are reply w' s'
+      answered w' counted =
+          let more = calls_then.0 in
           let called : w'.calls ≡ w1.calls + 1 = ap (λ (v : Writer D F). v.calls) counted in
           record {
-            same = counted ∙ (λ i. record (made.2 i) { token = w1.token; calls = w1.calls + 1; tally = tallies i }) ∙ (λ i. record w { token = (sym counted i).token; calls = (sym counted i).calls; tally = w.tally + 1 });
+            same = counted ∙ (λ i. record (made.2 i) { token = w1.token; calls = w1.calls + 1; tally = (made.2 i).tally + 1 }) ∙ (λ i. record w { token = (sym counted i).token; calls = (sym counted i).calls; tally = w.tally + 1 });
             calls = omega arith;
             waiting = (ap (λ (v : Writer D F). v.waiting) counted ∙ ap (λ (v : Writer D F). v.waiting) made.2, ap (λ (v : Writer D F). v.room) counted ∙ ap (λ (v : Writer D F). v.room) made.2);
-            pending = subst (λ (v : Writer D F). length (state v.token).pending ≤ length (state w.token).pending + 1) (sym counted) (done_pending h within o w w1 same_origin zero s s' rd (expected p plan) reply (Are p plan) plan opens key value done);
-            items = subst (λ (v : Writer D F). MayAddRegion (counters_in h o) (h.place o.config.client) (unreturned (state w.token) w.waiting) (unreturned (state v.token) v.waiting)) (sym counted) (done_items h within o w w1 same_origin zero s s' rd (expected p plan) reply (Are p plan) plan opens key value done);
-            root = subst (λ (v : Writer D F). (s'.root ≡ s.root) ⊎ AddsRegion (counters_in h o) (h.place o.config.client) (unreturned (state w.token) w.waiting) (unreturned (state v.token) v.waiting)) (sym counted) (done_root h within o w w1 same_origin zero s s' rd (expected p plan) reply (Are p plan) plan opens key value done);
+            pending = subst (λ (v : Writer D F). length (state v.token).pending ≤ length (state w.token).pending + 1) (sym counted) (done_pending h within o w w1 same_origin writing.first s s' rd (expected p plan) reply (Are p plan) plan opens key value done);
+            items = subst (λ (v : Writer D F). MayAddRegion (counters_in h o) (h.place o.config.client) (unreturned (state w.token) w.waiting) (unreturned (state v.token) v.waiting)) (sym counted) (done_items h within o w w1 same_origin writing.first s s' rd (expected p plan) reply (Are p plan) plan opens key value done);
+            root = subst (λ (v : Writer D F). (s'.root ≡ s.root) ⊎ AddsRegion (counters_in h o) (h.place o.config.client) (unreturned (state w.token) w.waiting) (unreturned (state v.token) v.waiting)) (sym counted) (done_root h within o w w1 same_origin writing.first s s' rd (expected p plan) reply (Are p plan) plan opens key value done);
             table_is = ap (λ (v : Writer D F). table_of v.token) counted ∙ ap (λ (v : Writer D F). table_of v.token) made.2;
-            reply_is = reply_then ∙ (sym (ap (λ z. z.reply) answer_is) ∙ (sym (answers h within o w.token same_origin part zero s rd.lists (opening_of opens)) ∙ ap (λ z. (step nat_cmp most (map_after (knows h o w.token).log) z.update).1) answer_is));
-            log = ap (λ (v : Writer D F). (knows h o v.token).log) counted ∙ ((done_over h within o w w1 same_origin zero s s' rd (expected p plan) reply (Are p plan) plan opens key value done).at.log
+            reply_is = reply_then ∙ (sym (ap (λ z. z.reply) answer_is) ∙ (sym (answers h within o w.token same_origin writing.part writing.first s rd.lists (opening_of opens)) ∙ ap (λ z. (step nat_cmp most (map_after (knows h o w.token).log) z.update).1) answer_is));
+            log = ap (λ (v : Writer D F). (knows h o v.token).log) counted ∙ ((done_over h within o w w1 same_origin writing.first s s' rd (expected p plan) reply (Are p plan) plan opens key value done).at.log
                 ∙ ap (λ z. (knows h o w.token).log ++ z ∷ []) (answer_is ∙ ap (λ (x : Reply). record { update = update; reply = x }) (sym reply_then)));
             steps = at_each (λ q z. (es : List Entry) × Makes l q (Are q z) z opens key value es × (w'.token ≡ adding w.token es)) plan planned
                 (made.0, made.1, ap (λ (v : Writer D F). v.token) counted ∙ ap (λ (v : Writer D F). v.token) made.2);
             free = at_each (λ q z. IsRebuildDue l q z → HasNoneFree s.arena (needed_log l q) → ⊥) plan planned
-                (λ due none. done_free h within o w w1 same_origin zero s s' rd (expected p plan) reply (Are p plan) plan opens key value done (λ ss are d. apart ss d are) due none);
-            ready = subst (λ (v : Writer D F). Ready h o v s') (sym counted) (done_ready h within o w w1 same_origin zero s s' rd (expected p plan) reply (Are p plan) plan opens key value done (tally + 1) (ap (λ (x : ℕ). x + 1) told));
+                (λ due none. done_free h within o w w1 same_origin writing.first s s' rd (expected p plan) reply (Are p plan) plan opens key value done (λ ss are d. apart ss d are) due none);
+            ready = subst (λ (v : Writer D F). Ready h o v s') (sym counted) (done_ready h within o w w1 same_origin writing.first s s' rd (expected p plan) reply (Are p plan) plan opens key value done);
           }
+
+      pub settled : IsSettled opens update Are reply w1 s'
+      settled = (calls_then.0, calls_then.1, answered)

@@ -138,19 +138,19 @@ module _ {D : Type 0} (h : Host D) (within : IsWithin table h.client h.place h.p
     longer : length (knows h o u).log ≡ length (knows h o w.token).log + 1
     longer = ap length over.at.log ∙ length-append (knows h o w.token).log (answer ∷ [])
 
-    pub ready_again : IsKept n (h.place o.config.client) s'.root (unreturned (state u) w'.waiting) s'.arena → w'.tally ≡ w.tally → w.calls ≤ w'.calls → (tally : ℕ) → tally ≡ w'.tally + 1 → Ready h o (record w' { calls = w'.calls + 1; tally = tally }) s'
-    ready_again kept tallied called tally is = let before = rd.tally in let few = rd.few in let more = longer in record { lists = ready_lists; arena = kept; tally = omega arith; few = omega arith }
+    pub ready_again : IsKept n (h.place o.config.client) s'.root (unreturned (state u) w'.waiting) s'.arena → w'.tally ≡ w.tally → w.calls ≤ w'.calls → Ready h o (record w' { calls = w'.calls + 1; tally = w'.tally + 1 }) s'
+    ready_again kept tallied called = let before = rd.tally in let few = rd.few in let more = longer in record { lists = ready_lists; arena = kept; tally = omega arith; few = omega arith }
 
   -- after its steps, where nothing was taken or retired
   module _ {F : Type 0} (w w' : Writer D F) (es : List Entry) (same : origin w.token ≡ o) (zero : number w.token ≡ 0) (steps : Steps h o w es w') (s s' : HtState) (rd : Ready h o w s) (answer : LogEntry ℕ) (over : IsOver n l (knows h o w'.token) answer (knows h o w.token).log s') where
-    pub ready_next : (s'.root ≡ s.root) × (s'.arena ≡ s.arena) → (tally : ℕ) → tally ≡ w'.tally + 1 → Ready h o (record w' { calls = w'.calls + 1; tally = tally }) s'
-    ready_next kept tally is =
+    pub ready_next : (s'.root ≡ s.root) × (s'.arena ≡ s.arena) → Ready h o (record w' { calls = w'.calls + 1; tally = w'.tally + 1 }) s'
+    ready_next kept =
         let called : w'.calls ≡ w.calls = ap (λ (v : Writer D F). v.calls) steps.made in
         ready_again w w' (ap (λ (v : Writer D F). origin v.token) steps.made ∙ same) steps.is_token (ap (λ (v : Writer D F). number v.token) steps.made ∙ zero) s s' rd answer over
         (subst (λ (x : ℕ). IsKept n (h.place o.config.client) x (unreturned (state w'.token) w'.waiting) s'.arena) (sym kept.0)
         (subst (λ a. IsKept n (h.place o.config.client) s.root (unreturned (state w'.token) w'.waiting) a) (sym kept.1)
         (subst (λ ks. IsKept n (h.place o.config.client) s.root ks s.arena) items rd.arena)))
-        (ap (λ (v : Writer D F). v.tally) steps.made) (omega arith) tally is
+        (ap (λ (v : Writer D F). v.tally) steps.made) (omega arith)
       where
         items : unreturned (state w.token) w.waiting ≡ unreturned (state w'.token) w'.waiting
         items = (λ i. unreturned (record (state w'.token) { pending = sym steps.same.0 i; dispatched = sym steps.same.1 i }) (sym (ap (λ (v : Writer D F). v.waiting) steps.made) i))
@@ -204,9 +204,9 @@ module _ {D : Type 0} (h : Host D) (within : IsWithin table h.client h.place h.p
     pub done_root : (s'.root ≡ s.root) ⊎ AddsRegion n (h.place o.config.client) (unreturned (state w.token) w.waiting) (unreturned (state w'.token) w'.waiting)
     done_root = ⊎_elim (λ (x : Made). inl x.1) (λ (x : Grown). inr x.items) done
 
-    pub done_ready : (tally : ℕ) → tally ≡ w'.tally + 1 → Ready h o (record w' { calls = w'.calls + 1; tally = tally }) s'
-    done_ready tally is = ⊎_elim
-        (λ (x : Made). ready_next w w' (opened opens x.0.steps) same zero x.0.made s s' rd (answer_to l from (opening_of opens)) x.0.over (x.1, x.2) tally is)
+    pub done_ready : Ready h o (record w' { calls = w'.calls + 1; tally = w'.tally + 1 }) s'
+    done_ready = ⊎_elim
+        (λ (x : Made). ready_next w w' (opened opens x.0.steps) same zero x.0.made s s' rd (answer_to l from (opening_of opens)) x.0.over (x.1, x.2))
         (λ (x : Grown). ready_again w w' (ap (λ (v : Writer D F). origin v.token) x.made ∙ same) x.is_token (ap (λ (v : Writer D F). number v.token) x.made ∙ zero) s s' rd (answer_to l from (opening_of opens)) x.over x.arena
-        (ap (λ (v : Writer D F). v.tally) x.made) done_calls.0 tally is)
+        (ap (λ (v : Writer D F). v.tally) x.made) done_calls.0)
         done

@@ -12,7 +12,6 @@ pub mod Made
 pub mod Between
 pub mod Answering
 pub mod ByPlan
-pub mod Adding
 pub mod Openings
 pub mod Opened
 pub mod Taking

@@ -7,16 +7,19 @@ ghost use Rattle.ck_run.specs.Tokens.{table, adding};
 ghost use Rattle.ck_history.specs.Map.{step};
 ghost use Rattle.ck_history.specs.declared.update.Update.TheVariants.{Set, Put, Del};
 ghost use Rattle.ck_epoch.specs.State.{state as epochs};
+ghost use Rattle.ck_epoch.specs.Ends.{IsWriting};
+ghost use Rattle.ck_htplan.specs.Region.{view_of};
 ghost use Rattle.ck_htlaw.specs.Calls.{set as setting, put as putting, remove as removing};
 ghost use Rattle.ck_htlaw.specs.Host.{host, lies};
+ghost use Rattle.ck_htlaw.specs.Layout.{log_of};
 ghost use Rattle.ck_htlaw.specs.Table.{WriterState};
 ghost use Rattle.ck_htlaw.specs.Actions.{most, plan_now};
 ghost use Rattle.ck_htlaw.specs.Linearized.{map_after};
 ghost use Rattle.ck_htlaw.specs.Known.{knows};
 ghost use Rattle.ck_arena.specs.Arena.{unreturned, HasNoneFree};
 ghost use Rattle.ck_htwrite.specs.Arena.{AddsRegion, MayAddRegion};
-ghost use Rattle.ck_htwrite.specs.State.{Ready};
-ghost use Rattle.ck_htwrite.specs.Updates.{SetSteps, PutSteps, RemoveSteps, IsNeeded, IsRebuildDue, Makes, needed_log};
+ghost use Rattle.ck_htwrite.specs.State.{IsReady, Ready, next_count};
+ghost use Rattle.ck_htwrite.specs.Updates.{SetSteps, PutSteps, RemoveSteps, IsIn, HasStates, IsNeeded, IsRebuildDue, Makes, needed_log};
 ghost use Rattle.ck_htwrite.specs.Writes.{WriterIs, counters_in, opened};
 
 use crate::cases::{plan_for, put_by, remove_by, set_by};
@@ -24,7 +27,38 @@ use crate::state::{HtState, Need};
 use ck_epoch::{Domain, Within, Writer};
 use ck_history::{Key, Reply};
 use ck_htlaw::HtClient;
+use ck_htplan::Plan;
 use std::marker::Brand;
+
+// How an update finds its key, before its first step.
+fn first_plan<D: Within<HtClient>, F>(
+    domain: &Domain<D>,
+    writer: &Writer<D, F>,
+    state: &HtState,
+    key: Key,
+) -> Plan
+    requires table { table writer.now.token ≡ domain.now }
+    requires calls { writer.now.calls < 2 ^ 40 }
+    requires ready { Ready (host D.meaning D.place D.part) domain.now.origin writer.now state.now }
+    ensures writing { IsWriting D.meaning writer.now.token }
+    ensures inside { IsIn (2 ^ log_of state.now.root) result }
+    ensures states { HasStates (view_of state.now.words.items) result }
+    ensures small { next_count (counters_in (host D.meaning D.place D.part) domain.now.origin) state.now < 2 ^ 62 }
+    ensures plan { (r : IsReady (host D.meaning D.place D.part) domain.now.origin writer.now.token state.now) → plan_now (lies (host D.meaning D.place D.part) domain.now.origin) r.is_writer key ≡ result }
+{
+    let _updates = writer.tally();
+    plan_for(domain, state, key)
+}
+
+// One more update is done.
+pub(crate) fn count_update<D: Within<HtClient>, F>(writer: &mut Writer<D, F>)
+    requires calls { writer.old.calls < 2 ^ 40 }
+    requires few { writer.old.tally ≤ writer.old.calls }
+    ensures { writer.new ≡ record writer.old { calls = writer.old.calls + 1; tally = writer.old.tally + 1 } }
+{
+    let updates = writer.tally() + 1;
+    writer.set_tally(updates);
+}
 
 /// Gives the key this value, as `ck_ht_set_spmc`, and answers what the map of one thread answers: whether the key is fresh, or else the value
 /// that it had; or that 262,144 pairs are there already. The map is rebuilt first where more than three quarters of its slots would be in use.
@@ -54,11 +88,9 @@ pub fn set<D: Within<HtClient>, F>(
     ensures free { IfOk result (λ r. (p : WriterState) → WriterIs (host D.meaning D.place D.part) domain.now.origin writer.old.token p → IsRebuildDue (lies (host D.meaning D.place D.part) domain.now.origin) p (plan_now (lies (host D.meaning D.place D.part) domain.now.origin) p key) → HasNoneFree state.old.arena (needed_log (lies (host D.meaning D.place D.part) domain.now.origin) p) → ⊥) }
     ensures ready { Ready (host D.meaning D.place D.part) domain.now.origin writer.new state.new }
 {
-    let _updates = writer.tally();
-    let plan = plan_for(domain, state, key);
+    let plan = first_plan(domain, writer, state, key);
     let reply = set_by::<D, F, Brand>(domain, writer, state, plan, key, value)?;
-    let updates = writer.tally() + 1;
-    writer.set_tally(updates);
+    count_update(writer);
     Ok(reply)
 }
 
@@ -88,11 +120,9 @@ pub fn put<D: Within<HtClient>, F>(
     ensures free { IfOk result (λ r. (p : WriterState) → WriterIs (host D.meaning D.place D.part) domain.now.origin writer.old.token p → IsRebuildDue (lies (host D.meaning D.place D.part) domain.now.origin) p (plan_now (lies (host D.meaning D.place D.part) domain.now.origin) p key) → HasNoneFree state.old.arena (needed_log (lies (host D.meaning D.place D.part) domain.now.origin) p) → ⊥) }
     ensures ready { Ready (host D.meaning D.place D.part) domain.now.origin writer.new state.new }
 {
-    let _updates = writer.tally();
-    let plan = plan_for(domain, state, key);
+    let plan = first_plan(domain, writer, state, key);
     let reply = put_by::<D, F, Brand>(domain, writer, state, plan, key, value)?;
-    let updates = writer.tally() + 1;
-    writer.set_tally(updates);
+    count_update(writer);
     Ok(reply)
 }
 
@@ -116,10 +146,8 @@ pub fn remove<D: Within<HtClient>, F>(
     ensures steps { (p : WriterState) → WriterIs (host D.meaning D.place D.part) domain.now.origin writer.old.token p → (ss : List Step) × RemoveSteps (lies (host D.meaning D.place D.part) domain.now.origin) p (plan_now (lies (host D.meaning D.place D.part) domain.now.origin) p key) ss × (writer.new.token ≡ adding writer.old.token (opened (removing ∷ key ∷ []) ss)) }
     ensures ready { Ready (host D.meaning D.place D.part) domain.now.origin writer.new state.new }
 {
-    let _updates = writer.tally();
-    let plan = plan_for(domain, state, key);
+    let plan = first_plan(domain, writer, state, key);
     let reply = remove_by::<D, F, Brand>(domain, writer, state, plan, key);
-    let updates = writer.tally() + 1;
-    writer.set_tally(updates);
+    count_update(writer);
     reply
 }

@@ -1,5 +1,6 @@
 //! How the pairs of the present region are copied into one that isn't published.
 ghost use Rattle.std.specs.Prelude.{◌≡◌, ℕ, ◌+◌, ◌*◌, ◌^◌, ◌<◌, ◌≤◌, List, length, map, slice_index};
+ghost use Rattle.std.specs.Vec.{with_item};
 ghost use Rattle.ck_run.specs.declared.account.Step.{Step};
 ghost use Rattle.ck_run.specs.Run.{further};
 ghost use Rattle.ck_run.specs.Tokens.{table};
@@ -30,6 +31,19 @@ pub(crate) fn word_in(words: &Vec<u64>, at: u64, j: u64) -> u64
     words[(SLOT * at + j) as usize]
 }
 
+// Puts a pair into the slot `at`.
+fn put_pair(words: &mut Vec<u64>, at: u64, low: u64, high: u64, value: u64)
+    requires slot { 4 * at + 3 < length words.old.items }
+    requires few { at < 524288 }
+    ensures { words.new ≡ with_item (with_item (with_item (with_item words.old (4 * at + 3) value) (4 * at + 1) low) (4 * at + 2) high) (4 * at + 0) 1 }
+{
+    let first = SLOT * at;
+    words[(first + VALUE) as usize] = value;
+    words[(first + LOW) as usize] = low;
+    words[(first + HIGH) as usize] = high;
+    words[(first + STATE) as usize] = FULL;
+}
+
 // Copies the pair of the old slot `i`, if it is full, to the first empty slot of its key's order in the region of this root.
 fn copy_slot<D: Within<HtClient>, F>(
     domain: &Domain<D>,
@@ -57,11 +71,7 @@ fn copy_slot<D: Within<HtClient>, F>(
     let hash = key_code(low, high, domain.client().inner().seed);
     let to = first_empty(&state.spare, root % 32, hash);
     store_pair(domain, writer, root, to, low, high, value);
-    let first = SLOT * to;
-    state.spare[(first + VALUE) as usize] = value;
-    state.spare[(first + LOW) as usize] = low;
-    state.spare[(first + HIGH) as usize] = high;
-    state.spare[(first + STATE) as usize] = FULL;
+    put_pair(&mut state.spare, to, low, high, value);
 }
 
 // Copies all pairs of the present region, old slot by old slot, into the region of this root, which is cleared.

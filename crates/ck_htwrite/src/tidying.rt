@@ -18,6 +18,7 @@ ghost use Rattle.ck_htwrite.specs.Rebuild.{AreTidying, HoldKeysOnce, Rebuilt};
 ghost use Rattle.ck_htwrite.specs.State.{IsReady, Ready};
 ghost use Rattle.ck_htwrite.specs.Writes.{counters_in};
 
+use crate::calls::count_update;
 use crate::growth::rebuild;
 use crate::state::{HtState, Need};
 use crate::writes::ask_root;
@@ -82,7 +83,6 @@ pub fn tidy<D: Within<HtClient>, F>(
 {
     let _updates = writer.tally();
     tidy_map::<D, F, Brand>(domain, writer, state)?;
-    let updates = writer.tally() + 1;
-    writer.set_tally(updates);
+    count_update(writer);
     Ok(Reply::Tidied)
 }

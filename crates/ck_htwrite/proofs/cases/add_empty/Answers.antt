@@ -2,7 +2,7 @@ use Rattle.std.proofs.Common.{◌≡◌, ℕ, ◌<◌, Bool, false, nat_le, arit
 use Rattle.std.proofs.lemmas.Bool.Decides.{nat_tests}
 use Rattle.ck_htlaw.specs.Host.{host}
 use Rattle.ck_htlaw.specs.Stages.{empty}
-use Rattle.ck_htwrite.proofs.Adding.{adds_empty, few_keys, few_tombstones, insert_full, inserted_now, may_ask_full, may_insert_now}
+use Rattle.ck_htwrite.proofs.ByPlan.{adds_empty, few_keys, few_tombstones, insert_full, inserted_now, may_ask_full, may_insert_now}
 use Rattle.ck_htwrite.proofs.Made.{done_grown}
 use Rattle.ck_htwrite.proofs.cases.add_empty.Goals as goal
 

@@ -1,6 +1,6 @@
 use Rattle.std.proofs.Common.{arith}
 use Rattle.ck_htlaw.specs.Stages.{reuse as reusing}
-use Rattle.ck_htwrite.proofs.Adding.{may_ask_full, may_reuse_now, reuse_full, reused_now, some_tombstones}
+use Rattle.ck_htwrite.proofs.ByPlan.{may_ask_full, may_reuse_now, reuse_full, reused_now, some_tombstones}
 use Rattle.ck_htwrite.proofs.cases.add_reused.Goals as goal
 
 pub ask_root-requires-clause-due : goal.ask_root-requires-clause-due

@@ -14,7 +14,7 @@ delete-requires-clause-keys g c =
     some_keys _ _ c.args.writer.now c.args.state.now c.requires.due.0 g.O.Opens.opens c.args.key 0 c.args.plan c.requires.due.1 (Stand c.in-Stand.at) c.in-Stand.is c.in-Stand.at (subst (IsIn (2 ^ log_of c.args.state.now.root)) c.in-Stand.is c.requires.inside) (subst (HasStates (view_of c.args.state.now.words.items)) c.in-Stand.is c.requires.states) refl c.requires.name
 
 pub delete-requires-clause-tombstones : goal.delete-requires-clause-tombstones
-delete-requires-clause-tombstones g c = tombstones_fit _ _ c.args.writer.now _ c.requires.due.0 g.O.Opens.opens c.args.key 0
+delete-requires-clause-tombstones g c = tombstones_fit _ _ c.args.writer.now _ c.requires.due.0
 
 pub delete-requires-clause-due : goal.delete-requires-clause-due
 delete-requires-clause-due g c =
@@ -33,7 +33,7 @@ delete-requires-in-Move-clause-keys g c =
     some_keys _ _ c.args.writer.now c.args.state.now c.requires.due.0 g.O.Opens.opens c.args.key 0 c.args.plan c.requires.due.1 (Move c.in-Move.to c.in-Move.from) c.in-Move.is c.in-Move.from (subst (IsIn (2 ^ log_of c.args.state.now.root)) c.in-Move.is c.requires.inside).1 (subst (HasStates (view_of c.args.state.now.words.items)) c.in-Move.is c.requires.states).1 refl c.requires.name
 
 pub delete-requires-in-Move-clause-tombstones : goal.delete-requires-in-Move-clause-tombstones
-delete-requires-in-Move-clause-tombstones g c = tombstones_fit _ _ c.args.writer.now _ c.requires.due.0 g.O.Opens.opens c.args.key 0
+delete-requires-in-Move-clause-tombstones g c = tombstones_fit _ _ c.args.writer.now _ c.requires.due.0
 
 pub delete-requires-in-Move-clause-due : goal.delete-requires-in-Move-clause-due
 delete-requires-in-Move-clause-due g c =

@@ -8,7 +8,7 @@ use Rattle.ck_htlaw.specs.Host.{host, first, inner, lies}
 use Rattle.ck_htlaw.specs.Layout.{log_of}
 use Rattle.ck_htlaw.specs.Client.{hash_of}
 use Rattle.ck_htlaw.specs.Known.{knows}
-use Rattle.ck_htwrite.specs.Rebuild.{pair_steps}
+use Rattle.ck_htwrite.specs.Rebuild.{CopiesAt, pair_steps}
 use Rattle.ck_htwrite.specs.Writes.{counters_in}
 use Rattle.ck_htwrite.proofs.Chains.{no_steps}
 use Rattle.ck_htwrite.proofs.Finding.{key_low, key_high, some_empty, small_slot}
@@ -92,32 +92,9 @@ pub returns-clause-at : goal.returns-clause-at
 returns-clause-at g c p call due told copies =
     let h = host g.D.Client.meaning g.D.Within.place g.D.Within.part in let o = c.args.domain.now.origin in
     let at = (goal.at.returns-clause-at g c).After-first_empty-to in
-    slot_then (base_of (inner h o)) (first h o) (inner h o).config.client p c.args.state.now c.args.root c.requires.can call due told (knows h o c.args.writer.now.token) c.args.i c.first_empty-to.result c.requires.slot (full g at) copies
-    (c.word_in-low.result, (c.word_in-high.result, c.word_in-value.result)) (λ z. (sym c.word_in-low.ensures z, (sym c.word_in-high.ensures z, sym c.word_in-value.ensures z))) (c.word_in-low.type_inv, found g at) (knows h o c.store_pair.new.writer.token) c.store_pair.ensures.steps.knows_now
+    subst (λ spare. CopiesAt (counters_in h o) (lies h o) (knows h o c.store_pair.new.writer.token) p call due told (record c.args.state.now { spare = spare }) c.args.root (c.args.i + 1)) (sym c.put_pair.ensures)
+    (slot_then (base_of (inner h o)) (first h o) (inner h o).config.client p c.args.state.now c.args.root c.requires.can call due told (knows h o c.args.writer.now.token) c.args.i c.first_empty-to.result c.requires.slot (full g at) copies
+    (c.word_in-low.result, (c.word_in-high.result, c.word_in-value.result)) (λ z. (sym c.word_in-low.ensures z, (sym c.word_in-high.ensures z, sym c.word_in-value.ensures z))) (c.word_in-low.type_inv, found g at) (knows h o c.store_pair.new.writer.token) c.store_pair.ensures.steps.knows_now)
 
-pub overflow_mul-first : goal.overflow_mul-first
-overflow_mul-first g c = let fits = room g (goal.at.overflow_mul-first g c).After-first_empty-to in omega arith
-
-pub overflow_add-first : goal.overflow_add-first
-overflow_add-first g c = let fits = room g (goal.at.overflow_add-first g c).After-first_empty-to in omega arith
-
-pub overflow_add-first-2 : goal.overflow_add-first-2
-overflow_add-first-2 g c = let fits = room g (goal.at.overflow_add-first-2 g c).After-first_empty-to in omega arith
-
-pub overflow_add-first-3 : goal.overflow_add-first-3
-overflow_add-first-3 g c = let fits = room g (goal.at.overflow_add-first-3 g c).After-first_empty-to in omega arith
-
-pub overflow_add-first-4 : goal.overflow_add-first-4
-overflow_add-first-4 g c = let fits = room g (goal.at.overflow_add-first-4 g c).After-first_empty-to in omega arith
-
-pub index_mut-requires : goal.index_mut-requires
-index_mut-requires g c = let fits = room g (goal.at.index_mut-requires g c).After-first_empty-to in omega arith
-
-pub index_mut-requires-2 : goal.index_mut-requires-2
-index_mut-requires-2 g c = let fits = room g (goal.at.index_mut-requires-2 g c).After-first_empty-to in omega arith
-
-pub index_mut-requires-3 : goal.index_mut-requires-3
-index_mut-requires-3 g c = let fits = room g (goal.at.index_mut-requires-3 g c).After-first_empty-to in omega arith
-
-pub index_mut-requires-4 : goal.index_mut-requires-4
-index_mut-requires-4 g c = let fits = room g (goal.at.index_mut-requires-4 g c).After-first_empty-to in omega arith
+pub put_pair-requires : goal.put_pair-requires
+put_pair-requires g c = let fits = room g (goal.at.put_pair-requires g c).After-first_empty-to in record { slot = fits.0; few = fits.1 }
