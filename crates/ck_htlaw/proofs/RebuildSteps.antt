@@ -65,7 +65,7 @@ module _ (o : Order) (v : SlotsView) (maps : Maps) (q : ℕ) (g g' : Stage) (c :
     justified = λ k s x law. law;
   }
 
-  pub calm_reader : (r now : ℕ) (look_state : LookState) → LookInvariant o v maps q g now r look_state → LookInvariant o v maps q g' now r look_state
+  calm_reader : (r now : ℕ) (look_state : LookState) → LookInvariant o v maps q g now r look_state → LookInvariant o v maps q g' now r look_state
   calm_reader r = reader_kept o v v maps maps q q g g' r (calm_kept r) (omega arith)
 
 module _ (l : Layout) (ws : List ℕ) (p : WriterState) (h : WriterInvariant l ws p) where
