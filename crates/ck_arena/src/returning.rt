@@ -2,14 +2,12 @@
 ghost use Rattle.std.specs.Prelude.{◌≡◌, ℕ, ◌+◌, ◌<◌, ◌^◌, [], length};
 ghost use Rattle.ck_run.specs.Tokens.{table};
 ghost use Rattle.ck_words.specs.Buddies.{Piece, with_pieces_out};
-ghost use Rattle.ck_epoch.specs.declared.answers.Poll.{Poll as PollOf};
 ghost use Rattle.ck_epoch.specs.declared.item.Item.{Item as ItemOf};
-ghost use Rattle.ck_epoch.specs.State.{Origin, state as epochs, barrier as bars, queue, records_of};
-ghost use Rattle.ck_epoch.specs.Calls.{Polls, pending_after};
+ghost use Rattle.ck_epoch.specs.State.{Origin, state as epochs, barrier as bars, records_of};
 ghost use Rattle.ck_epoch.specs.Lists.{Answers};
 ghost use Rattle.ck_epoch.specs.Rounds.{Rounds};
 ghost use Rattle.ck_arena.specs.Arena.{unreturned, AreBacks, GoHome, KeepsAll};
-ghost use Rattle.ck_arena.specs.Found.{found_by};
+ghost use Rattle.ck_arena.specs.Found.{PollsOnce};
 
 use crate::found::found_active;
 use ck_epoch::{Client, Domain, Item, Writer};
@@ -59,8 +57,7 @@ pub fn poll_all<C: Client, P: Pieces<C>, F: Fn(Item) -> Back>(
     requires kept { (present : Piece) × KeepsAll (P.is_item domain.now.origin) (P.place domain.now.origin) present (unreturned (epochs writer.old.token) writer.old.waiting) arena.old }
     ensures same { writer.new ≡ record writer.old { token = writer.new.token; calls = writer.old.calls + 1 } }
     ensures table { table writer.new.token ≡ table writer.old.token }
-    ensures polled { (answer : PollOf) × Polls (records_of domain.now.origin) (epochs writer.old.token).epoch writer.old.token answer writer.new.token × (result ≡ found_by (epochs writer.old.token).epoch answer)
-        × (queue (epochs writer.new.token).pending ≡ pending_after (epochs writer.old.token).epoch answer (queue (epochs writer.old.token).pending)) }
+    ensures polled { PollsOnce domain.now.origin writer.old.token result writer.new.token }
     ensures arena { arena.new ≡ with_pieces_out arena.old arena.new.out }
     ensures kept { (present : Piece) → KeepsAll (P.is_item domain.now.origin) (P.place domain.now.origin) present (unreturned (epochs writer.old.token) writer.old.waiting) arena.old
         → KeepsAll (P.is_item domain.now.origin) (P.place domain.now.origin) present (unreturned (epochs writer.new.token) writer.new.waiting) arena.new }

@@ -30,9 +30,9 @@ ghost use Rattle.ck_array.specs.Reads.{ReadsAll};
 ghost use Rattle.ck_array.specs.Writes.{opens_of};
 
 use crate::editing::{commit, edit};
-use crate::giving::give_all;
 use crate::part;
 use crate::state::ArrayState;
+use ck_arena::give_all;
 use ck_arraylaw::ArrayClient;
 use ck_epoch::{Closed, Domain, Item, Pass, Writer};
 use ck_history::{Busy, Edit, EditReply};
@@ -304,7 +304,7 @@ impl Array {
         ensures pending { (epochs w.new.writer.token).pending ≡ [] }
         ensures count { result ≡ length (epochs w.old.writer.token).pending }
     {
-        give_all(&self.domain, rt, &mut w.writer, &mut w.state)
+        give_all::<_, ArrayState, _, _>(&self.domain, rt, &mut w.writer, &mut w.state.arena)
     }
 
     /// The committed list. The only error is want of memory.

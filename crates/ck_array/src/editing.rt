@@ -9,12 +9,11 @@ ghost use Rattle.ck_history.specs.declared.edit.Edit.TheVariants.{Commit};
 ghost use Rattle.ck_arraylaw.specs.Client.{is_region, home_of};
 ghost use Rattle.ck_arraylaw.specs.Host.{base_word};
 ghost use Rattle.ck_arraylaw.specs.Reached.{with_signals};
-ghost use Rattle.ck_array.specs.Edited.{IsBusy, IsCommitted, IsEdited, IsMade, IsRefused};
+ghost use Rattle.ck_array.specs.Edited.{HasPolled, IsBusy, IsCommitted, IsEdited, IsMade, IsRefused};
 ghost use Rattle.ck_array.specs.Ends.{IsWriterReady};
 ghost use Rattle.ck_array.specs.Writes.{opens_of};
 
 use crate::committing;
-use crate::giving::poll_all;
 use crate::state::ArrayState;
 use crate::writing::edit_pending;
 use ck_arraylaw::ArrayClient;
@@ -66,6 +65,21 @@ fn attempt<F>(
         }
         None => None,
     }
+}
+
+// Polls once, and gives each answer that waits back to the arena. Answers the record that the poll loaded active, where it did.
+fn poll_all<F: Fn(Item) -> Back>(
+    domain: &Domain<Signals<ArrayClient>>,
+    writer: &mut Writer<Signals<ArrayClient>, F>,
+    state: &mut ArrayState,
+) -> Option<Busy>
+    requires table { table writer.old.token ≡ domain.now }
+    requires calls { writer.old.calls < 2 ^ 40 }
+    requires handler { Answers (λ item. is_region item) (λ item. home_of item) (F.pre writer.old.handler) (F.post writer.old.handler) }
+    requires ready { IsWriterReady domain.now.origin writer.old state.old }
+    ensures polled { HasPolled domain.now.origin writer.old state.old result writer.new state.new }
+{
+    ck_arena::poll_all::<_, ArrayState, _>(domain, writer, &mut state.arena)
 }
 
 // Makes the commit, after one poll where the arena has no region for it. Busy where it has none then.

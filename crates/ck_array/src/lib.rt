@@ -4,11 +4,12 @@
 mod array;
 mod committing;
 mod editing;
-mod giving;
 pub mod part;
 mod state;
 #[cfg(test)]
 mod tests;
+#[cfg(test)]
+mod thread_tests;
 mod writing;
 
 pub use array::{Array, ArrayPass, ArrayWriter, home};

@@ -7,9 +7,11 @@ ghost use Rattle.ck_arena.specs.Arena.{HasNoneFree, IsKept};
 ghost use Rattle.ck_arraylaw.specs.Layout.{first_region, log_for, IsArrayItem, IsRegion};
 ghost use Rattle.ck_array.specs.Writes.{largest_log, region_piece, IsArenaOfArray};
 
-use ck_arraylaw::{ARENA, ARENA_LOG, LEAST_LOG};
+use ck_arena::Pieces;
+use ck_arraylaw::{ARENA, ARENA_LOG, ArrayClient, LEAST_LOG};
 use ck_epoch::Item;
 use ck_history::FixedLists;
+use ck_signal::Signals;
 use ck_words::Buddies;
 use std::alloc::{AllocError, Global};
 
@@ -37,6 +39,16 @@ pub struct ArrayState {
     pub(crate) lists: FixedLists,
     pub(crate) arena: Buddies,
     pub(crate) region: Item,
+}
+
+impl Pieces<Signals<ArrayClient>> for ArrayState {
+    ghost use Rattle.ck_arraylaw.specs.Layout.{IsArrayItem};
+    ghost use Rattle.ck_arraylaw.specs.Reached.{with_signals};
+    ghost use Rattle.ck_arraylaw.specs.Regions.{place_in};
+
+    ghost place = { place_in with_signals };
+
+    ghost is_item = { λ o. IsArrayItem (place_in with_signals o) };
 }
 
 impl ArrayState {

@@ -61,7 +61,11 @@ fn three_edits<F>(array: &Array, w: &mut ArrayWriter<F>) -> (EditReply, EditRepl
 }
 
 // What a read gives.
-fn members(alloc: Global, array: &Array, pass: &mut ArrayPass) -> Result<Vec<u64>, AllocError>
+pub(crate) fn members(
+    alloc: Global,
+    array: &Array,
+    pass: &mut ArrayPass,
+) -> Result<Vec<u64>, AllocError>
     requires table { table pass.old.token ≡ array.now }
     requires section { 0 < depth pass.old.token }
     requires ready { IsPassReady array.now.origin pass.old }

@@ -10,13 +10,13 @@ use Rattle.ck_run.specs.Run.{call, entry, further}
 use Rattle.ck_run.specs.Tokens.{adding}
 use Rattle.ck_epoch.specs.declared.answers.Poll.{Poll}
 use Rattle.ck_epoch.specs.declared.answers.Poll.TheVariants.{Clear, Moved, Blocked}
-use Rattle.ck_epoch.specs.State.{Token, active_word, epoch_word, base, poll}
+use Rattle.ck_epoch.specs.State.{Token, active_word, epoch_word, base, poll, barrier}
 use Rattle.ck_epoch.specs.Calls.{RecordLook, Polls, look_steps, scan_steps}
-use Rattle.ck_epoch.specs.Rounds.{wait_steps, waits_steps, IsRound}
+use Rattle.ck_epoch.specs.Rounds.{wait_steps, waits_steps, IsRound, Rounds}
 use Rattle.ck_events.proofs.Steps.{AreQuiet, call_quiet}
 
 module _ (records : ℕ) where
-  abbrev pub IsLow : Step → Type 0
+  abbrev IsLow : Step → Type 0
   IsLow s = word_of s < base records
 
   low_look : (rec : ℕ) (l : RecordLook) → rec < records → All IsLow (look_steps rec l)
@@ -34,7 +34,7 @@ module _ (records : ℕ) where
   low_waits rec [] low = All-nil IsLow
   low_waits rec (looks ∷ rest) low = All-append IsLow (wait_steps rec looks) (waits_steps (rec + 1) rest) (low_wait rec looks (omega arith)) (low_waits (rec + 1) rest (omega arith))
 
-  pub low_round : (e : ℕ) (steps : List Step) → IsRound records e steps → All IsLow steps
+  low_round : (e : ℕ) (steps : List Step) → IsRound records e steps → All IsLow steps
   low_round e steps r =
       let waits = waits_steps 0 r.0 in
       subst (All IsLow) (sym r.3) (All-cons IsLow (Load 0 e) (waits ++ Exchange 0 e (e + 1) e ∷ []) (omega arith)
@@ -55,22 +55,28 @@ module _ (records : ℕ) where
   low_further [] h = All-nil IsLowEntry
   low_further (s ∷ ss) h = All-cons IsLowEntry (further s) (map further ss) (All-head IsLow s ss h, refl) (low_further ss (All-tail IsLow s ss h))
 
-  pub low_call : (name : ℕ) (ss : List Step) → All IsLow ss → All IsLowEntry (call name [] ss)
+  low_call : (name : ℕ) (ss : List Step) → All IsLow ss → All IsLowEntry (call name [] ss)
   low_call name [] h = All-nil IsLowEntry
   low_call name (s ∷ ss) h = All-cons IsLowEntry (entry (name ∷ []) s) (map further ss) (All-head IsLow s ss h, refl) (low_further ss (All-tail IsLow s ss h))
 
   -- what is so of these entries, by which t has become u
-  abbrev pub AreOfPoll : {C : Type 0} → Token C → Token C → List Entry → Type 0
-  AreOfPoll t u es = (u ≡ adding t es) × All IsLowEntry es × AreQuiet es
+  abbrev pub AreOfEpochs : {C : Type 0} → Token C → Token C → List Entry → Type 0
+  AreOfEpochs t u es = (u ≡ adding t es) × All IsLowEntry es × AreQuiet es
+
+  -- the steps of a barrier
+  pub barrier_steps : {C : Type 0} (e : ℕ) (t u : Token C) → Rounds records barrier e t u → (es : List Entry) × AreOfEpochs t u es
+  barrier_steps e t u r =
+      let ss = r.0 ++ r.1 in
+      (call barrier [] ss, (r.4, low_call barrier ss (All-append IsLow r.0 r.1 (low_round e r.0 r.2) (low_round (e + 1) r.1 r.3)), call_quiet barrier ss (λ e. omega arith)))
 
   -- the steps of a poll
-  pub poll_steps : {C : Type 0} (e : ℕ) (t u : Token C) (answer : Poll) → Polls records e t answer u → (es : List Entry) × AreOfPoll t u es
+  pub poll_steps : {C : Type 0} (e : ℕ) (t u : Token C) (answer : Poll) → Polls records e t answer u → (es : List Entry) × AreOfEpochs t u es
   poll_steps {C} e t u answer p = by answer p
     where
-      made : (ss : List Step) → u ≡ adding t (call poll [] ss) → All IsLow ss → (es : List Entry) × AreOfPoll t u es
+      made : (ss : List Step) → u ≡ adding t (call poll [] ss) → All IsLow ss → (es : List Entry) × AreOfEpochs t u es
       made ss is low = (call poll [] ss, (is, low_call poll ss low, call_quiet poll ss (λ e. omega arith)))
 
-      by : (answer : Poll) → Polls records e t answer u → (es : List Entry) × AreOfPoll t u es
+      by : (answer : Poll) → Polls records e t answer u → (es : List Entry) × AreOfEpochs t u es
       by (Clear n) p = made (Load 0 e ∷ scan_steps 0 p.looked) p.steps (All-cons IsLow (Load 0 e) (scan_steps 0 p.looked) (omega arith) (low_scan 0 p.looked (let all = p.all in omega arith)))
       by (Moved n rec) p = made (Load 0 e ∷ scan_steps 0 p.looked ++ Exchange 0 e (e + 1) e ∷ []) p.steps (low_poll e p.looked (Exchange 0 e (e + 1) e ∷ []) (let all = p.all in omega arith) (All-cons IsLow (Exchange 0 e (e + 1) e) [] (omega arith) (All-nil IsLow)))
       by (Blocked n rec epoch) p =

@@ -1,5 +1,5 @@
 -- How a table begins.
-use Rattle.std.proofs.Common.{◌≡◌, ℕ, List, [], refl, arith}
+use Rattle.std.proofs.Common.{◌≡◌, List, [], refl, arith}
 use Rattle.std.specs.Prelude.{All}
 use Rattle.ck_run.specs.Tokens.{Table}
 use Rattle.ck_epoch.specs.declared.about.About.{About}

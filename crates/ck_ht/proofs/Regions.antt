@@ -1,16 +1,11 @@
 -- The regions of a table, as pieces of its arena.
-use Rattle.std.proofs.Common.{◌≡◌, ℕ, ◌+◌, ◌-◌, ◌*◌, ◌^◌, ◌<◌, ◌≤◌, le_refl, ⊎_elim, List, [], ◌++◌, length, sym, ap, ◌∙◌, pow-add, arith}
-use Rattle.std.specs.List.Sorted.{IsPermutation}
+use Rattle.std.proofs.Common.{◌≡◌, ℕ, ◌+◌, ◌-◌, ◌*◌, ◌^◌, ◌<◌, ◌≤◌, le_refl, ⊎_elim, List, [], length, sym, ap, ◌∙◌, pow-add, arith}
 use Rattle.std.proofs.lemmas.Bool.{cases_lt}
 use Rattle.std.proofs.lemmas.Nat.{pow_pos}
 use Rattle.std.proofs.Math.Nat.{pow-le-pow_right}
-use Rattle.ck_words.specs.declared.back.Back.{Back}
 use Rattle.ck_words.specs.Buddies.{Arena, Piece, piece, IsPieceOut, ArePiecesApart}
 use Rattle.ck_epoch.specs.declared.item.Retired.{Retired}
-use Rattle.ck_epoch.specs.Lists.{homes}
-use Rattle.ck_epoch.specs.State.{TokenState, queue}
-use Rattle.ck_arena.specs.Arena.{retired_piece, unreturned, AreBacks, HasNoneFree}
-use Rattle.ck_arena.proofs.Backs.{after_dispatch}
+use Rattle.ck_arena.specs.Arena.{GoHome, HasNoneFree}
 use Rattle.ck_arena.proofs.Few.{few_out}
 use Rattle.ck_arena.proofs.Ranges.{in_use, one_free}
 use Rattle.ck_htlaw.specs.Client.{home_of}
@@ -19,20 +14,9 @@ use Rattle.ck_htwrite.specs.Arena.{region_piece, AreTableItems, IsArenaOfTable, 
 use Rattle.ck_htwrite.proofs.Taking.{log_le}
 use Rattle.ck_ht.specs.Updating.{AreAllInUse}
 
-none_less : (a : ℕ) → a ≡ a - 0
-none_less a = omega arith
-
--- the piece that goes back with an item
-pub same_piece : (b : Back) (k : Retired) → b ≡ home_of k.item → piece b.at b.log ≡ retired_piece 0 k
-same_piece b k is = ap (λ (x : Back). piece x.at x.log) is ∙ ap (λ (a : ℕ). piece a k.item.log) (none_less k.item.at)
-
--- The answers that wait, and the arena, once some pending regions were dispatched and others stay pending
-pub after_table_dispatch : (n root : ℕ) (t u : TokenState) (items left : List Retired) (waiting : List Back) (a : Arena) → AreTableItems n 0 (unreturned t []) → IsKept n 0 root (unreturned t []) a
-    → waiting ≡ homes home_of items → queue u.dispatched ≡ queue t.dispatched ++ items → queue u.pending ≡ left → IsPermutation (queue t.pending) (items ++ left)
-    → IsKept n 0 root (unreturned u waiting) a × AreTableItems n 0 (unreturned u waiting) × AreBacks home_of u waiting
-after_table_dispatch n root t u items left waiting a own kept are more rest moved =
-    let d = after_dispatch home_of (IsTableItem n 0) 0 (region_piece root) t u items left waiting a own kept.pieces are more rest moved in
-    (record { of_table = kept.of_table; pieces = d.0 }, d.1, d.2)
+-- each item goes back as its own piece
+pub goes_home : GoHome home_of 0
+goes_home k = ap (λ (a : ℕ). piece a k.item.log) (let z : k.item.at ≡ k.item.at - 0 = omega arith in z)
 
 module _ (n root : ℕ) (a : Arena) (apart : ArePiecesApart a) where
   -- no more regions are out than the arena has pieces of 32 words

@@ -7,7 +7,8 @@ use Rattle.ck_run.specs.Range.{word_of}
 use Rattle.ck_run.specs.Machine.{state_after}
 use Rattle.ck_run.specs.Tokens.{adding, did, number}
 use Rattle.ck_run.proofs.Law.{state-append}
-use Rattle.ck_epoch.specs.State.{Origin, Token, base_of, state}
+use Rattle.ck_words.specs.Buddies.{Arena}
+use Rattle.ck_epoch.specs.State.{Origin, base_of, state}
 use Rattle.ck_epoch.specs.Calls.{SameItemsAndEpoch}
 use Rattle.ck_epoch.specs.Ends.{Writer}
 use Rattle.ck_htlaw.specs.Client.{Answers, answers_after, answers_next}
@@ -46,14 +47,15 @@ module _ {D : Type 0} (host : Host D) (o : Origin D) where
       let h = stays (answers_next l a e) p es now.0 off.2 in
       (h.0, h.1 ∙ now.1)
 
-  pub ready_outside : {F : Type 0} (w v : Writer D F) (s : HtState) (es : List Entry) → Ready host o w s → v.token ≡ adding w.token es → AreOutside es → v.tally ≡ w.tally → w.calls ≤ v.calls
-      → IsKept (counters_in host o) (host.place o.config.client) s.root (unreturned (state v.token) v.waiting) s.arena → Ready host o v s × ((knows host o v.token).log ≡ (knows host o w.token).log)
-  ready_outside w v s es r made off tally calls kept =
+  -- where the arena may be another one by then
+  pub ready_outside : {F : Type 0} (w v : Writer D F) (s : HtState) (a : Arena) (es : List Entry) → Ready host o w s → v.token ≡ adding w.token es → AreOutside es → v.tally ≡ w.tally → w.calls ≤ v.calls
+      → IsKept (counters_in host o) (host.place o.config.client) s.root (unreturned (state v.token) v.waiting) a → Ready host o v (record s { arena = a }) × ((knows host o v.token).log ≡ (knows host o w.token).log)
+  ready_outside w v s a es r made off tally calls kept =
       let after : knows host o v.token ≡ state_after (answers_next l) (knows host o w.token) es = ap (knows host o) made ∙ state-append (answers_next l) (answers_after l o.words (number w.token) []) (did w.token) es in
       let h = stays (knows host o w.token) r.lists.is_writer es r.lists.is off in
-      let log = ap (λ (a : Answers). a.log) after ∙ h.1 in (
+      let log = ap (λ (x : Answers). x.log) after ∙ h.1 in (
         record {
-          lists = record { is_writer = r.lists.is_writer; is = ap (λ (a : Answers). a.local) after ∙ h.0; idles = r.lists.idles; reflects = r.lists.reflects };
+          lists = record { is_writer = r.lists.is_writer; is = ap (λ (x : Answers). x.local) after ∙ h.0; idles = r.lists.idles; reflects = with_arena (counters_in host o) l r.lists.is_writer s (record s { arena = a }) refl r.lists.reflects };
           arena = kept;
           tally = tally ∙ (r.tally ∙ sym (ap length log));
           few = (let f = r.few in omega arith);
@@ -74,22 +76,11 @@ module _ {D : Type 0} (host : Host D) (o : Origin D) where
   pub ready_beside : {F : Type 0} (w v : Writer D F) (s : HtState) (e : Entry) → Ready host o w s → v ≡ record w { token = adding w.token (e ∷ []) } → is_table_word l e.step ≡ false → e.item ≡ [] → SameItemsAndEpoch w.token v.token → Ready host o v s
   ready_beside {F} w v s e r made off none same =
       let items = items_beside w v e made same in
-      (ready_outside w v s (e ∷ []) r (ap (λ (x : Writer D F). x.token) made) (off, none, tt) (ap (λ (x : Writer D F). x.tally) made) (let c = ap (λ (x : Writer D F). x.calls) made in omega arith)
+      (ready_outside w v s s.arena (e ∷ []) r (ap (λ (x : Writer D F). x.token) made) (off, none, tt) (ap (λ (x : Writer D F). x.tally) made) (let c = ap (λ (x : Writer D F). x.calls) made in omega arith)
       (subst (λ ks. IsKept (counters_in host o) (host.place o.config.client) s.root ks s.arena) items r.arena)).0
 
   pub log_beside : {F : Type 0} (w v : Writer D F) (s : HtState) (e : Entry) → Ready host o w s → v ≡ record w { token = adding w.token (e ∷ []) } → is_table_word l e.step ≡ false → e.item ≡ [] → SameItemsAndEpoch w.token v.token → (knows host o v.token).log ≡ (knows host o w.token).log
   log_beside {F} w v s e r made off none same =
       let items = items_beside w v e made same in
-      (ready_outside w v s (e ∷ []) r (ap (λ (x : Writer D F). x.token) made) (off, none, tt) (ap (λ (x : Writer D F). x.tally) made) (let c = ap (λ (x : Writer D F). x.calls) made in omega arith)
+      (ready_outside w v s s.arena (e ∷ []) r (ap (λ (x : Writer D F). x.token) made) (off, none, tt) (ap (λ (x : Writer D F). x.tally) made) (let c = ap (λ (x : Writer D F). x.calls) made in omega arith)
       (subst (λ ks. IsKept (counters_in host o) (host.place o.config.client) s.root ks s.arena) items r.arena)).1
-
-  -- once answers were given back
-  pub ready_given : {F : Type 0} (v v' : Writer D F) (s s' : HtState) → Ready host o v s → v' ≡ record v { waiting = [] } → s' ≡ record s { arena = s'.arena }
-      → IsKept (counters_in host o) (host.place o.config.client) s'.root (unreturned (state v'.token) v'.waiting) s'.arena → Ready host o v' s'
-  ready_given {F} v v' s s' r made lists kept =
-      let token : v.token ≡ v'.token = sym (ap (λ (x : Writer D F). x.token) made) in record {
-        lists = subst (λ (t : Token D). IsReady host o t s') token record { is_writer = r.lists.is_writer; is = r.lists.is; idles = r.lists.idles; reflects = with_arena (counters_in host o) l r.lists.is_writer s s' lists r.lists.reflects };
-        arena = kept;
-        tally = ap (λ (x : Writer D F). x.tally) made ∙ (r.tally ∙ ap (λ (t : Token D). length (knows host o t).log) token);
-        few = (let f = r.few in let a = ap (λ (x : Writer D F). x.tally) made in let b = ap (λ (x : Writer D F). x.calls) made in omega arith);
-      }

@@ -1,7 +1,6 @@
 //! A hash table with one writer and many readers, after `ck_ht` of Concurrency Kit.
 #![tactic(auto)]
 
-mod giving;
 mod laws;
 pub mod part;
 mod table;

@@ -43,9 +43,9 @@ ghost use Rattle.ck_ht.specs.Getting.{Gets};
 ghost use Rattle.ck_ht.specs.Room.{HasRoomFor, IsRoomFor};
 ghost use Rattle.ck_ht.specs.Updating.{MakesUpdate, MayRebuild, IsBusy, IsKeyed};
 
-use crate::giving::give_all;
 use crate::laws::settled_law;
 use crate::updating::apply;
+use ck_arena::{Pieces, give_all};
 use ck_epoch::{Closed, Domain, Item, Pass, Writer};
 use ck_history::{Busy, Key, Look, Reply, Update};
 use ck_htlaw::HtClient;
@@ -138,6 +138,16 @@ fn room_log(keys: u64) -> u64
         }
     }
     LARGEST_LOG + 4
+}
+
+impl Pieces<Signals<HtClient>> for Ht {
+    ghost use Rattle.ck_htlaw.specs.Layout.{IsTableItem};
+    ghost use Rattle.ck_htlaw.specs.Reached.{with_signals};
+    ghost use Rattle.ck_htwrite.specs.Writes.{counters_in};
+
+    ghost place = { λ o. 0 };
+
+    ghost is_item = { λ o. IsTableItem (counters_in with_signals o) 0 };
 }
 
 impl Ht {
@@ -447,7 +457,7 @@ impl Ht {
         ensures pending { (epochs w.new.writer.token).pending ≡ [] }
         ensures count { result ≡ length (epochs w.old.writer.token).pending }
     {
-        give_all(&self.domain, rt, &mut w.writer, &mut w.state)
+        give_all::<_, Ht, _, _>(&self.domain, rt, &mut w.writer, &mut w.state.arena)
     }
 
     /// The pairs of the map now, by ascending key. The only error is want of memory.

@@ -16,8 +16,7 @@ ghost use Rattle.ck_ht.specs.Ends.{IsWriterReady};
 ghost use Rattle.ck_ht.specs.Room.{HasRoomFor};
 ghost use Rattle.ck_ht.specs.Updating.{MayRebuild, IsKeyed, IsMade, IsRefused, HasPolled, IsUpdated, IsBusy};
 
-use crate::giving::give_back;
-use ck_arena::found_active;
+use crate::Ht;
 use ck_epoch::{Domain, Item, Writer};
 use ck_history::{Busy, Key, Reply, Update};
 use ck_htlaw::HtClient;
@@ -59,9 +58,7 @@ fn poll_all<F: Fn(Item) -> Back>(
     requires ready { IsWriterReady domain.now.origin writer.old state.old }
     ensures polled { HasPolled domain.now.origin writer.old state.old result writer.new state.new }
 {
-    let (epoch, answer) = domain.poll_from(writer);
-    give_back(domain, writer, state);
-    found_active(epoch, answer)
+    ck_arena::poll_all::<_, Ht, _>(domain, writer, &mut state.arena)
 }
 
 // Makes the update, after one poll where the arena has no region for the rebuild that is due. Busy where it has none then.

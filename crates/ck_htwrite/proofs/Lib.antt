@@ -29,5 +29,4 @@ pub mod Rebuilding
 pub mod Tidies
 pub mod Growing
 pub mod Grown
-pub mod Giving
 pub mod Gathering

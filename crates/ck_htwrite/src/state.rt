@@ -35,7 +35,8 @@ pub struct HtState {
     pub(crate) keys: u64,
     pub(crate) tombstones: u64,
     pub(crate) counters: Vec<u64>,
-    pub(crate) arena: Buddies,
+    /// Which pieces are out. What was retired goes back to it once the domain has given its answer.
+    pub arena: Buddies,
 }
 
 /// A piece of `2 ^ log` words that a call needs, where the state has none free. Its shelf is 0, that of pieces.

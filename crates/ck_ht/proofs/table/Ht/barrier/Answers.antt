@@ -1,43 +1,53 @@
-use Rattle.std.proofs.Common.{◌≡◌, true, sym, ap, ◌∙◌, subst}
-use Rattle.ck_run.specs.Tokens.{Table, origin}
+use Rattle.std.proofs.Common.{true, ◌+◌, length, refl, sym, ap, ◌∙◌, subst}
+use Rattle.ck_run.specs.Tokens.{Table, table}
 use Rattle.ck_epoch.specs.declared.about.About.{About}
-use Rattle.ck_epoch.specs.Ends.{Writer}
 use Rattle.ck_epoch.specs.Lists.{Answers}
-use Rattle.ck_htlaw.specs.Client.{home_of}
 use Rattle.ck_epoch.specs.Rounds.{Rounds}
 use Rattle.ck_epoch.specs.State.{Origin, barrier, records_of, state}
 use Rattle.ck_signal.specs.declared.signals.Signals.{Signals}
 use Rattle.ck_htlaw.specs.declared.client.HtClient.{HtClient}
+use Rattle.ck_htlaw.specs.Client.{home_of}
 use Rattle.ck_htlaw.specs.Known.{knows}
 use Rattle.ck_htlaw.specs.Reached.{with_signals}
+use Rattle.ck_htwrite.specs.Arena.{region_piece}
 use Rattle.ck_ht.specs.Ends.{HtWriter, IsWriterReady}
 use Rattle.ck_ht.specs.Events.{hand_events}
+use Rattle.ck_ht.proofs.Polled.{has_waited, ready_here}
+use Rattle.ck_ht.proofs.Regions.{goes_home}
 use Rattle.ck_ht.proofs.table.Ht.barrier.Goals as goal
 
-pub give_all-requires-clause-ready : goal.give_all-requires-clause-ready
-give_all-requires-clause-ready g c =
-    let at : origin c.w.inside.writer.token ≡ c.self.inside.domain.origin = ap (λ (v : HtWriter g.row.F.Denot). origin v.writer.token) c.w.view_is ∙ (ap (λ d. d.origin) c.requires.table ∙ sym (ap (λ d. d.origin) c.self.view_is)) in
-    subst (λ (o : Origin (Signals HtClient)). IsWriterReady o c.w.inside.writer c.w.inside.state) at c.w.invariant
+pub give_all-requires-clause-handler : goal.give_all-requires-clause-handler
+give_all-requires-clause-handler g c = λ i retires.
+    subst (λ (y : HtWriter g.row.F.Denot). Answers (λ item. true) (λ item. home_of item) (λ item. g.F.Fn.pre y.writer.handler (item, tt)) (λ item back. g.F.Fn.post y.writer.handler (item, tt) back)) (sym c.w.view_is) c.requires.handler i refl
+
+pub give_all-requires-clause-home : goal.give_all-requires-clause-home
+give_all-requires-clause-home g c = goes_home
+
+pub give_all-requires-clause-kept : goal.give_all-requires-clause-kept
+give_all-requires-clause-kept g c =
+    let x = c.w.inside in let r = ready_here c.self.inside.domain c.args.self.now (record { writer = x.writer; state = x.state }) c.args.w.now c.self.view_is c.w.view_is c.requires.table c.w.invariant in
+    (region_piece x.state.root, (r.ready.arena.pieces, r.own))
 
 pub invariant_of-w : goal.invariant_of-w
 invariant_of-w g c =
-    let at : c.self.inside.domain.origin ≡ origin c.give_all.new.writer.token = ap (λ d. d.origin) c.self.view_is ∙ (sym (ap (λ d. d.origin) c.requires.table) ∙ (sym (ap (λ (v : HtWriter g.row.F.Denot). origin v.writer.token) c.w.view_is) ∙ sym (ap (λ d. d.origin) c.give_all.ensures.table))) in
-    subst (λ (o : Origin (Signals HtClient)). IsWriterReady o c.give_all.new.writer c.give_all.new.state) at c.give_all.ensures.ready
+    let d = c.self.inside.domain in let x = c.w.inside in let v = c.give_all.new.writer in let a = c.give_all.new.arena in let e = c.give_all.ensures in
+    let r = ready_here d c.args.self.now (record { writer = x.writer; state = x.state }) c.args.w.now c.self.view_is c.w.view_is c.requires.table c.w.invariant in
+    subst (λ (o : Origin (Signals HtClient)). IsWriterReady o v (record x.state { arena = a }))
+    (ap (λ (t : Table (About (Signals HtClient))). t.origin) (c.self.view_is ∙ (sym c.requires.table ∙ (sym (ap (λ (y : HtWriter g.row.F.Denot). table y.writer.token) c.w.view_is) ∙ sym e.table))))
+    (has_waited d.origin x.writer v x.state a r e.same e.arena (e.kept (region_piece x.state.root) (r.ready.arena.pieces, r.own)) e.steps).2
 
-pub returns-clause-steps : goal.returns-clause-steps
-returns-clause-steps g c =
-    let same = ap (λ (v : HtWriter g.row.F.Denot). v.writer) c.w.view_is in
-    subst (λ (x : Table (About (Signals HtClient)) × Writer (Signals HtClient) g.row.F.Denot). Rounds (records_of x.0.origin) barrier (state x.1.token).epoch x.1.token c.give_all.new.writer.token) (λ i. (c.self.view_is i, same i)) c.give_all.ensures.steps
-
-pub returns-clause-log : goal.returns-clause-log
-returns-clause-log g c =
-    let same = ap (λ (v : HtWriter g.row.F.Denot). v.writer) c.w.view_is in
-    (λ i. (knows with_signals (sym c.self.view_is i).origin c.give_all.new.writer.token).log) ∙ (c.give_all.ensures.log ∙ (λ i. (knows with_signals (c.self.view_is i).origin (same i).token).log))
-
-pub returns-clause-events : goal.returns-clause-events
-returns-clause-events g c =
-    let same = ap (λ (v : HtWriter g.row.F.Denot). v.writer) c.w.view_is in
-    (λ i. hand_events (sym c.self.view_is i).origin c.give_all.new.writer.token) ∙ (c.give_all.ensures.events ∙ (λ i. hand_events (c.self.view_is i).origin (same i).token))
-
-pub give_all-requires-clause-handler : goal.give_all-requires-clause-handler
-give_all-requires-clause-handler g c = subst (λ (v : Writer (Signals HtClient) g.row.F.Denot). Answers (λ item. true) (λ item. home_of item) (λ item. g.F.Fn.pre v.handler (item, tt)) (λ item back. g.F.Fn.post v.handler (item, tt) back)) (sym (ap (λ (v : HtWriter g.row.F.Denot). v.writer) c.w.view_is)) c.requires.handler
+pub returns : goal.returns
+returns g c =
+    let F = g.row.F.Denot in let d = c.self.inside.domain in let x = c.w.inside in let v = c.give_all.new.writer in let e = c.give_all.ensures in
+    let r = ready_here d c.args.self.now (record { writer = x.writer; state = x.state }) c.args.w.now c.self.view_is c.w.view_is c.requires.table c.w.invariant in
+    let done = has_waited d.origin x.writer v x.state c.give_all.new.arena r e.same e.arena (e.kept (region_piece x.state.root) (r.ready.arena.pieces, r.own)) e.steps in
+    let same = ap (λ (y : HtWriter F). y.writer) c.w.view_is in
+    record {
+      same = e.same ∙ (λ i. record (same i) { token = v.token; calls = (same i).calls + 1 });
+      table = e.table ∙ ap (λ y. table y.token) same;
+      steps = subst (λ (y : Table (About (Signals HtClient)) × HtWriter F). Rounds (records_of y.0.origin) barrier (state y.1.writer.token).epoch y.1.writer.token v.token) (λ i. (c.self.view_is i, c.w.view_is i)) e.steps;
+      log = (λ i. (knows with_signals (sym c.self.view_is i).origin v.token).log) ∙ (done.0 ∙ (λ i. (knows with_signals (c.self.view_is i).origin (same i).token).log));
+      events = (λ i. hand_events (sym c.self.view_is i).origin v.token) ∙ (done.1 ∙ (λ i. hand_events (c.self.view_is i).origin (same i).token));
+      pending = e.pending;
+      count = e.count ∙ ap (λ y. length (state y.token).pending) same;
+    }
