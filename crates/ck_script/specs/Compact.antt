@@ -2,6 +2,8 @@
 use Rattle.std.specs.Prelude.{◌≡◌, ℕ, zero, suc, ◌<◌, ◌^◌, ◌/◌, ◌%◌, List, map, slice_get, Some}
 use Rattle.ck_history.specs.declared.update.Update.{Update}
 use Rattle.ck_history.specs.declared.update.Update.TheVariants.{Set, Put, Del, Tidy}
+use Rattle.ck_history.specs.declared.edit.Edit.{Edit}
+use Rattle.ck_history.specs.declared.edit.Edit.TheVariants.{Add, Drop, Commit}
 use Rattle.ck_script.specs.declared.line.Numbered.{Numbered}
 use Rattle.ck_script.specs.declared.line.UpLine.{UpLine}
 use Rattle.ck_script.specs.declared.line.UpLine.TheVariants.{Call, Hold}
@@ -20,6 +22,9 @@ IsKeptUpdate IsKept (suc zero) number rest = IsKept number rest.0
 IsKeptUpdate IsKept (suc (suc zero)) number rest = IsKept number rest.0
 IsKeptUpdate IsKept (suc (suc (suc kind))) number rest = Unit {0}
 
+abbrev pub IsKeptEdit : ℕ → ℕ → Type 0
+IsKeptEdit kind number = number < 2 ^ 64
+
 abbrev pub IsKeptAskLine : {R : Type 0} → (ℕ → R → Type 0) → ℕ → ℕ → R → Type 0
 IsKeptAskLine IsKept zero number rest = number < 2 ^ 64
 IsKeptAskLine IsKept (suc kind) number rest = IsKept number rest
@@ -34,6 +39,11 @@ update_of key_of zero number rest = Set (key_of number rest.0) rest.1
 update_of key_of (suc zero) number rest = Put (key_of number rest.0) rest.1
 update_of key_of (suc (suc zero)) number rest = Del (key_of number rest.0)
 update_of key_of (suc (suc (suc kind))) number rest = Tidy
+
+abbrev pub edit_of : ℕ → ℕ → Edit
+edit_of zero number = Add number
+edit_of (suc zero) number = Drop number
+edit_of (suc (suc kind)) number = Commit
 
 abbrev pub ask_line_of : {K R : Type 0} → (ℕ → R → K) → ℕ → ℕ → R → AskLine K
 ask_line_of key_of zero number rest = Wait number

@@ -2,7 +2,7 @@
 ghost use Rattle.std.specs.Prelude.{◌≡◌, ◌<◌};
 
 use crate::line::{AskLine, UpLine};
-use ck_history::{Key, Update};
+use ck_history::{Edit, Key, Update};
 
 /// A key or a query that is kept as a number and a rest.
 pub trait CompactKey: Copy {
@@ -104,6 +104,22 @@ impl CompactKey for Key {
     fn no_rest() {}
 }
 
+impl CompactKey for () {
+    type Rest = ();
+
+    ghost is_kept = { λ _ _. Unit {0} };
+
+    ghost key_of = { λ _ _. tt };
+
+    fn split(&self) -> (u128, ()) {
+        (0, ())
+    }
+
+    fn join(_: u128, _: ()) {}
+
+    fn no_rest() {}
+}
+
 impl<K: CompactKey> CompactCall for Update<K> {
     ghost use Rattle.ck_script.specs.Compact.{IsKeptUpdate, update_of};
 
@@ -143,6 +159,34 @@ impl<K: CompactKey> CompactCall for Update<K> {
     fn no_rest() -> (K::Rest, u64) {
         (K::no_rest(), 0)
     }
+}
+
+impl CompactCall for Edit {
+    ghost use Rattle.ck_script.specs.Compact.{IsKeptEdit, edit_of};
+
+    type Rest = ();
+
+    ghost is_kept = { λ kind number _. IsKeptEdit kind number };
+
+    ghost call_of = { λ kind number _. edit_of kind number };
+
+    fn split(&self) -> (u8, u128, ()) {
+        match *self {
+            Edit::Add(member) => (0, member as u128, ()),
+            Edit::Drop(member) => (1, member as u128, ()),
+            Edit::Commit => (2, 0, ()),
+        }
+    }
+
+    fn join(kind: u8, number: u128, _: ()) -> Edit {
+        match kind {
+            0 => Edit::Add(number as u64),
+            1 => Edit::Drop(number as u64),
+            _ => Edit::Commit,
+        }
+    }
+
+    fn no_rest() {}
 }
 
 /// How many numbers a word has.

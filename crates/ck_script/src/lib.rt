@@ -9,6 +9,7 @@ mod compact;
 mod fault;
 mod key_word;
 mod line;
+mod line_list;
 mod lines;
 mod list_line;
 mod read;
@@ -22,6 +23,7 @@ pub use compact::{CompactCall, CompactKey, CompactLine};
 pub use fault::{ScriptError, ScriptFault, Why};
 pub use key_word::KeyWord;
 pub use line::{AskLine, Numbered, UpLine};
+pub use line_list::LineList;
 pub use lines::Lines;
 pub use read::{
     read_edits, read_queries, read_updates, read_views, scan_edits, scan_queries, scan_updates,

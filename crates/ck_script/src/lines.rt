@@ -1,10 +1,9 @@
 //! The lines of a file in little room.
-ghost use Rattle.std.specs.Prelude.{◌≡◌, ◌<◌, ◌++◌, ◌∷◌, [], length, slice_get, Some, OnOk, OnErr};
-ghost use Rattle.ck_script.specs.Script.{said_of};
-ghost use Rattle.ck_script.specs.Compact.{Listed};
+ghost use Rattle.std.specs.Prelude.{◌≡◌, ◌++◌, ◌∷◌, [], OnOk, OnErr};
 
 use crate::compact::CompactLine;
 use crate::line::Numbered;
+use crate::line_list::LineList;
 use crate::rows::{Row, Rows};
 use std::alloc::{AllocError, Global};
 use std::marker::Model;
@@ -36,13 +35,6 @@ impl<L: CompactLine> Lines<L> {
         }
     }
 
-    /// How many lines there are.
-    pub fn len(&self) -> usize
-        ensures { result ≡ length self.now.items }
-    {
-        self.rows.len()
-    }
-
     /// Adds a line at the end. An `AllocError` leaves the lines as they were.
     pub fn push(&mut self, line: Numbered<L>) -> Result<(), AllocError>
         ensures ok { OnOk result (self.new.items ≡ self.old.items ++ line ∷ []) }
@@ -56,21 +48,22 @@ impl<L: CompactLine> Lines<L> {
             rest,
         })
     }
+}
 
-    /// What the line at place i says.
-    pub fn what(&self, i: usize) -> L
-        requires { i < length self.now.items }
-        ensures { slice_get (said_of self.now.items) i ≡ Some result }
-    {
+impl<L: CompactLine> LineList<L> for Lines<L> {
+    ghost items = { λ lines. lines.items };
+
+    fn len(&self) -> usize {
+        self.rows.len()
+    }
+
+    fn what(&self, i: usize) -> L {
         let (kind, number, rest) = self.rows.parts(i);
         L::join(kind, number, rest)
     }
 
-    /// The line at place i. It takes time in the logarithm of how often a line isn't the next after the line before.
-    pub fn get(&self, i: usize) -> Numbered<L>
-        requires { i < length self.now.items }
-        ensures { slice_get self.now.items i ≡ Some result }
-    {
+    // It takes time in the logarithm of how often a line isn't the next after the line before.
+    fn get(&self, i: usize) -> Numbered<L> {
         let (kind, number, rest) = self.rows.parts(i);
         Numbered {
             line: self.rows.line(i),

@@ -1,5 +1,5 @@
 use Rattle.ck_script.proofs.Keeping.{row_there, kept_there, what_there}
-use Rattle.ck_script.proofs.lines.Lines.what.Goals as goal
+use Rattle.ck_script.proofs.lines.LinesLineList.what.Goals as goal
 
 pub join-requires : goal.join-requires
 join-requires g c =

@@ -1,5 +1,5 @@
 use Rattle.ck_script.proofs.Keeping.{row_there, kept_there, line_there}
-use Rattle.ck_script.proofs.lines.Lines.get.Goals as goal
+use Rattle.ck_script.proofs.lines.LinesLineList.get.Goals as goal
 
 pub join-requires : goal.join-requires
 join-requires g c =
