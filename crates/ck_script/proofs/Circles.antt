@@ -1,11 +1,11 @@
 -- Lines that would wait for each other.
-use Rattle.std.proofs.Common.{◌≡◌, ℕ, zero, suc, ◌+◌, ◌<◌, ◌≤◌, ◌==◌, nat_le, ◌⊎◌, inl, inr, Bool, true, false, not, ◌&&◌, ◌||◌, cond, drop, take, List, [], ◌∷◌, length, get_or, map, refl, ap, arith, ◌∙◌, sym, Some, None}
+use Rattle.std.proofs.Common.{◌≡◌, ℕ, zero, suc, ◌+◌, ◌<◌, ◌≤◌, ◌==◌, nat_le, ◌⊎◌, inl, inr, Bool, true, false, not, ◌&&◌, ◌||◌, cond, drop, take, List, [], ◌∷◌, length, map, refl, ap, arith, ◌∙◌, sym, Some, None}
 use Rattle.std.specs.List.{slice_get, find, list_any, position_or_len}
 use Rattle.std.specs.Option.{option_map, option_map_or}
 use Rattle.std.proofs.lemmas.Bool.{cases_eq, cond-true, cond-false}
 use Rattle.std.proofs.lemmas.Bool.Decides.{nat_tests}
 use Rattle.std.proofs.lemmas.List.Folds.{find_at}
-use Rattle.std.proofs.lemmas.Option.{slice_get_past, slice_get_read}
+use Rattle.std.proofs.lemmas.Option.{slice_get_past}
 use Rattle.std.proofs.lemmas.List.{length-map}
 use Rattle.ck_script.specs.declared.line.Numbered.{Numbered}
 use Rattle.ck_script.specs.declared.line.UpLine.{UpLine}
@@ -15,7 +15,7 @@ use Rattle.ck_script.specs.declared.check.RangeFault.{RangeFault}
 use Rattle.ck_script.specs.Script.{said_of, updates}
 use Rattle.ck_script.specs.Checks.{query_file, placed, waits_for_more, is_circle, circle_fault}
 use Rattle.ck_script.specs.Fronts.{is_hold, is_circle_with}
-use Rattle.ck_script.proofs.Checking.{drop_next}
+use Rattle.ck_script.proofs.Standing.{drop_there, line_there}
 
 -- the first place that passes a test
 
@@ -65,14 +65,32 @@ placed_at m (l ∷ more) zero line is = ap (option_map (λ x. record { file = 0;
 placed_at m (l ∷ more) (suc i) line is = placed_at (m + length (updates (l.what ∷ []))) more i line is
 
 -- an element that passes no test
-pub position_next : {X : Type 0} (p : X → Bool) (xs : List X) (i : ℕ) (x : X) → i < length xs → x ≡ get_or xs i x → p x ≡ false → position_or_len p (drop i xs) ≡ 1 + position_or_len p (drop (i + 1) xs)
-position_next p xs i x lt is fails = ap (position_or_len p) (drop_next xs i x lt is) ∙ position_past p x (drop (i + 1) xs) fails
+pub position_next : {L : Type 0} (p : L → Bool) (lines : List (Numbered L)) (i : ℕ) (what : L) → slice_get (said_of lines) i ≡ Some what → p what ≡ false → position_or_len (λ l. p l.what) (drop i lines) ≡ 1 + position_or_len (λ l. p l.what) (drop (i + 1) lines)
+position_next p lines i what is fails =
+    let there = line_there lines i what is in
+    ap (position_or_len (λ l. p l.what)) (drop_there lines i there.0 there.1) ∙ position_past (λ l. p l.what) there.0 (drop (i + 1) lines) (ap p there.2 ∙ fails)
 
--- a line that passes no test
-pub placed_next : {C : Type 0} (p : ℕ × Numbered (UpLine C) → Bool) (m i k : ℕ) (ups : List (Numbered (UpLine C))) (line : Numbered (UpLine C)) → i < length ups → line ≡ get_or ups i line → p (m, line) ≡ false → k ≡ length (updates (line.what ∷ [])) → position_or_len p (placed m (drop i ups)) ≡ 1 + position_or_len p (placed (m + k) (drop (i + 1) ups))
-placed_next p m i k ups line lt is fails more =
-    ap (λ ls. position_or_len p (placed m ls)) (drop_next ups i line lt is)
-    ∙ (position_past p (m, line) _ fails ∙ ap (λ j. 1 + position_or_len p (placed (m + j) (drop (i + 1) ups))) (sym more))
+-- .. that passes it
+pub position_there : {L : Type 0} (p : L → Bool) (lines : List (Numbered L)) (i : ℕ) (what : L) → slice_get (said_of lines) i ≡ Some what → p what ≡ true → position_or_len (λ l. p l.what) (drop i lines) ≡ 0
+position_there p lines i what is passes =
+    let there = line_there lines i what is in
+    ap (position_or_len (λ l. p l.what)) (drop_there lines i there.0 there.1) ∙ position_here (λ l. p l.what) there.0 (drop (i + 1) lines) (ap p there.2 ∙ passes)
+
+-- a line that passes no test, where so many updates stand before
+pub placed_next : {C : Type 0} (p : ℕ → UpLine C → Bool) (m i k : ℕ) (ups : List (Numbered (UpLine C))) (what : UpLine C) → slice_get (said_of ups) i ≡ Some what → p m what ≡ false → k ≡ length (updates (what ∷ [])) → position_or_len (λ l. p l.0 l.1.what) (placed m (drop i ups)) ≡ 1 + position_or_len (λ l. p l.0 l.1.what) (placed (m + k) (drop (i + 1) ups))
+placed_next {C} p m i k ups what is fails more =
+    let there = line_there ups i what is in
+    let test : ℕ × Numbered (UpLine C) → Bool = λ l. p l.0 l.1.what in
+    ap (λ ls. position_or_len test (placed m ls)) (drop_there ups i there.0 there.1)
+    ∙ (position_past test (m, there.0) _ (ap (p m) there.2 ∙ fails)
+    ∙ ap (λ j. 1 + position_or_len test (placed (m + j) (drop (i + 1) ups))) (ap (λ w. length (updates (w ∷ []))) there.2 ∙ sym more))
+
+-- .. that passes it
+pub placed_there : {C : Type 0} (p : ℕ → UpLine C → Bool) (m i : ℕ) (ups : List (Numbered (UpLine C))) (what : UpLine C) → slice_get (said_of ups) i ≡ Some what → p m what ≡ true → position_or_len (λ l. p l.0 l.1.what) (placed m (drop i ups)) ≡ 0
+placed_there {C} p m i ups what is passes =
+    let there = line_there ups i what is in
+    let test : ℕ × Numbered (UpLine C) → Bool = λ l. p l.0 l.1.what in
+    ap (λ ls. position_or_len test (placed m ls)) (drop_there ups i there.0 there.1) ∙ position_here test (m, there.0) _ (ap (p m) there.2 ∙ passes)
 
 -- circles with the first query files
 
@@ -159,11 +177,10 @@ circle_none ups asks i end all is whole =
     let place = is ∙ ap (λ k. position_or_len (λ x. is_circle_within k (map said_of asks) x.0 x.1.what) (placed 0 ups)) (all ∙ sym (length-map asks said_of)) in
     circle_by_place ups asks end place ∙ ap (option_map fault_at) (slice_get_past (placed 0 ups) end (omega (arith, placed_length 0 ups, whole)))
 
-pub circle_some : {C A : Type 0} (ups : List (Numbered (UpLine C))) (asks : List (List (Numbered (AskLine A)))) (i end : ℕ) (line : Numbered (UpLine C)) → i ≡ length asks → end ≡ position_or_len (λ x. is_circle_within i (map said_of asks) x.0 x.1.what) (placed 0 ups) → end < length ups → line ≡ get_or ups end line → Some (record { file = 0; line = (get_or ups end line).line }) ≡ circle_fault ups asks
-circle_some ups asks i end line all is lt here =
+pub circle_some : {C A : Type 0} (ups : List (Numbered (UpLine C))) (asks : List (List (Numbered (AskLine A)))) (i end : ℕ) (line : Numbered (UpLine C)) → i ≡ length asks → end ≡ position_or_len (λ x. is_circle_within i (map said_of asks) x.0 x.1.what) (placed 0 ups) → slice_get ups end ≡ Some line → Some (record { file = 0; line = line.line }) ≡ circle_fault ups asks
+circle_some ups asks i end line all is here =
     let place = is ∙ ap (λ k. position_or_len (λ x. is_circle_within k (map said_of asks) x.0 x.1.what) (placed 0 ups)) (all ∙ sym (length-map asks said_of)) in
-    let there = placed_at 0 ups end line (slice_get_read ups (length ups) end line refl lt here) in
-    ap (λ l. Some (record { file = 0; line = l.line })) (sym here) ∙ sym (circle_by_place ups asks end place ∙ there)
+    sym (circle_by_place ups asks end place ∙ placed_at 0 ups end line here)
 
 -- a file with no `hold` line
 

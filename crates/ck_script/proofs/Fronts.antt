@@ -1,6 +1,6 @@
 -- Fronts of query files.
-use Rattle.std.proofs.Common.{◌≡◌, ℕ, zero, suc, ◌+◌, ◌-◌, ◌<◌, ◌≤◌, nat_lt, inl, inr, Bool, true, false, ◌||◌, ◌&&◌, drop, take, List, [], ◌∷◌, ◌++◌, length, get_or, refl, ap, arith, ◌∙◌, sym, subst, append_assoc, eq-eqb}
-use Rattle.std.specs.List.{list_any, AllByRecursion}
+use Rattle.std.proofs.Common.{◌≡◌, ℕ, zero, suc, ◌+◌, ◌-◌, ◌<◌, ◌≤◌, nat_lt, inl, inr, Bool, true, false, ◌||◌, ◌&&◌, drop, take, List, [], ◌∷◌, ◌++◌, length, refl, ap, Some, arith, ◌∙◌, sym, subst, append_assoc, eq-eqb}
+use Rattle.std.specs.List.{slice_get, list_any, AllByRecursion}
 use Rattle.std.proofs.lemmas.Bool.Decides.{nat_tests}
 use Rattle.std.proofs.lemmas.List.{length_push}
 use Rattle.std.proofs.Math.Seq.{drop-length}
@@ -13,7 +13,7 @@ use Rattle.ck_script.specs.declared.circle.Front.{Front}
 use Rattle.ck_script.specs.Script.{said_of, queries}
 use Rattle.ck_script.specs.Checks.{waits_for_more}
 use Rattle.ck_script.specs.Fronts.{is_circle_with, IsFront, IsStop, IsLonger}
-use Rattle.ck_script.proofs.Checking.{drop_next}
+use Rattle.ck_script.proofs.Standing.{said_there}
 
 pub lt_false : (a b : ℕ) → b ≤ a → nat_lt a b ≡ false
 lt_false a b le = grind (arith, nat_tests)
@@ -41,20 +41,17 @@ front_grows m n lines front le f = record {
 }
 
 -- one more line
-pub front_more : {A : Type 0} (m : ℕ) (lines : List (Numbered (AskLine A))) (old new : Front) (line : Numbered (AskLine A)) → IsFront m lines old → old.at < length lines → line ≡ get_or lines old.at line → IsLonger m old line.what new → IsFront m lines new
-front_more {A} m lines old new line f lt is longer = one_more line.what refl longer
+pub front_more : {A : Type 0} (m : ℕ) (lines : List (Numbered (AskLine A))) (old new : Front) (what : AskLine A) → IsFront m lines old → old.at < length lines → slice_get (said_of lines) old.at ≡ Some what → IsLonger m old what new → IsFront m lines new
+front_more {A} m lines old new what f lt is longer = one_more what (said_there lines old.at what is) longer
   where
     rest : List (AskLine A)
     rest = said_of (drop (old.at + 1) lines)
 
-    next : (what : AskLine A) → line.what ≡ what → said_of (drop old.at lines) ≡ what ∷ said_of (drop (old.at + 1) lines)
-    next what e = ap said_of (drop_next lines old.at line lt is) ∙ ap (λ w. w ∷ said_of (drop (old.at + 1) lines)) e
-
-    one_more : (what : AskLine A) → line.what ≡ what → IsLonger m old what new → IsFront m lines new
+    one_more : (what : AskLine A) → said_of (drop old.at lines) ≡ what ∷ rest → IsLonger m old what new → IsFront m lines new
     one_more (Ask key) e long =
         subst (IsFront m lines) (sym long.1) (record {
           done = f.done ++ (key, old.low) ∷ [];
-          whole = f.whole ∙ (ap (λ qs. f.done ++ queries old.low qs) (next (Ask key) e) ∙ sym (append_assoc f.done ((key, old.low) ∷ []) (queries old.low (said_of (drop (old.at + 1) lines)))));
+          whole = f.whole ∙ (ap (λ qs. f.done ++ queries old.low qs) e ∙ sym (append_assoc f.done ((key, old.low) ∷ []) (queries old.low (said_of (drop (old.at + 1) lines)))));
           count = length_push f.done (key, old.low) ∙ ap (λ n. n + 1) f.count;
           enough = enough_push m f.done (key, old.low) f.enough long.0;
           room = omega (arith, f.room);
@@ -63,7 +60,7 @@ front_more {A} m lines old new line f lt is longer = one_more line.what refl lon
     one_more (Wait count) e long =
         subst (IsFront m lines) (sym long) (record {
           done = f.done;
-          whole = f.whole ∙ ap (λ qs. f.done ++ queries old.low qs) (next (Wait count) e);
+          whole = f.whole ∙ ap (λ qs. f.done ++ queries old.low qs) e;
           count = f.count;
           enough = f.enough;
           room = omega (arith, f.room);

@@ -1,4 +1,5 @@
 pub mod Saying
+pub mod Standing
 pub mod Checking
 pub mod Ranges
 pub mod Fronts

@@ -1,10 +1,10 @@
 -- Lines that are beyond: `hold` lines for one query file after another, and files in which no task waits.
-use Rattle.std.proofs.Common.{◌≡◌, ℕ, zero, suc, ◌+◌, ◌<◌, ◌==◌, nat_lt, nat_le, inl, inr, Bool, true, false, ◌&&◌, ◌||◌, take, List, [], ◌∷◌, length, map, get_or, refl, ap, arith, ◌∙◌, sym, Option, Some, None}
+use Rattle.std.proofs.Common.{◌≡◌, ℕ, zero, suc, ◌+◌, ◌<◌, ◌==◌, nat_lt, nat_le, inl, inr, Bool, true, false, ◌&&◌, ◌||◌, take, List, [], ◌∷◌, length, map, refl, ap, arith, ◌∙◌, sym, Option, Some, None}
 use Rattle.std.specs.List.{slice_get, find, list_any, position_or_len}
 use Rattle.std.specs.Option.{option_map, option_map_or, option_or}
 use Rattle.std.proofs.lemmas.Bool.{cond-false, ne_eqb}
 use Rattle.std.proofs.lemmas.List.Folds.{find_at}
-use Rattle.std.proofs.lemmas.Option.{slice_get_past, slice_get_read}
+use Rattle.std.proofs.lemmas.Option.{slice_get_past}
 use Rattle.ck_script.specs.declared.line.Numbered.{Numbered}
 use Rattle.ck_script.specs.declared.line.UpLine.{UpLine}
 use Rattle.ck_script.specs.declared.line.UpLine.TheVariants.{Call, Hold}
@@ -88,10 +88,8 @@ pub beyond_none : {C A : Type 0} (files : List (List (AskLine A))) (i end : ℕ)
 beyond_none files i end ups all is whole =
     ap (option_map (λ l. l.line)) (beyond_by_place files i end ups all is ∙ slice_get_past ups end (omega (arith, whole)))
 
-pub beyond_some : {C A : Type 0} (files : List (List (AskLine A))) (i end : ℕ) (ups : List (Numbered (UpLine C))) (line : Numbered (UpLine C)) → i ≡ length files → end ≡ position_or_len (λ x. is_beyond_within i files x.what) ups → end < length ups → line ≡ get_or ups end line → Some (get_or ups end line).line ≡ option_map (λ l. l.line) (find (λ l. is_hold_beyond files l.what) ups)
-beyond_some files i end ups line all is lt here =
-    let there = ap (option_map (λ l. l.line)) (beyond_by_place files i end ups all is ∙ slice_get_read ups (length ups) end line refl lt here) in
-    ap (λ l. Some l.line) (sym here) ∙ sym there
+pub beyond_some : {C A : Type 0} (files : List (List (AskLine A))) (i end : ℕ) (ups : List (Numbered (UpLine C))) (line : Numbered (UpLine C)) → i ≡ length files → end ≡ position_or_len (λ x. is_beyond_within i files x.what) ups → slice_get ups end ≡ Some line → Some line.line ≡ option_map (λ l. l.line) (find (λ l. is_hold_beyond files l.what) ups)
+beyond_some files i end ups line all is here = sym (ap (option_map (λ l. l.line)) (beyond_by_place files i end ups all is ∙ here))
 
 -- a file with no `hold` line
 

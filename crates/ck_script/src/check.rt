@@ -1,4 +1,4 @@
-ghost use Rattle.std.specs.Prelude.{◌≡◌, ◌≤◌, length, map};
+ghost use Rattle.std.specs.Prelude.{◌≡◌, ◌≤◌, length, map, take};
 ghost use Rattle.std.specs.Option.{option_map};
 ghost use Rattle.std.specs.List.{find, position_or_len};
 ghost use Rattle.ck_script.specs.Script.{said_of, updates, queries};
@@ -6,7 +6,8 @@ ghost use Rattle.ck_script.specs.Checks.{is_hold_beyond, is_wait_beyond, first_w
 ghost use Rattle.ck_script.specs.Shorts.{names_no_file, is_short};
 
 use crate::circle::has_hold;
-use crate::line::{AskLine, Numbered, UpLine};
+use crate::line::{AskLine, UpLine};
+use crate::line_list::LineList;
 
 /// A line that asks for what can't come: the number of its file, where 0 is the update file, and its own number.
 #[derive(Clone, Copy, PartialEq, Eq, Debug)]
@@ -17,11 +18,11 @@ pub struct RangeFault {
 
 /// The first line, by file and then by line, that asks for more than there is: a `wait` for more updates, or a
 /// `hold` for a file that there isn't or for more queries than that file has.
-pub fn check_ranges<C, A>(
-    ups: &[Numbered<UpLine<C>>],
-    asks: &[Vec<Numbered<AskLine<A>>>],
+pub fn check_ranges<C: Drop, A: Drop, U: LineList<UpLine<C>>, F: LineList<AskLine<A>>>(
+    ups: &U,
+    asks: &[F],
 ) -> Option<RangeFault>
-    ensures { result ≡ range_fault ups.now (map (λ file. file.items) asks.now) }
+    ensures { result ≡ range_fault (U.items ups.now) (map F.items asks.now) }
 {
     match find_hold(ups, asks) {
         Some(line) => Some(RangeFault { file: 0, line }),
@@ -31,29 +32,32 @@ pub fn check_ranges<C, A>(
 
 // The number of the first `hold` line that is beyond. Where there is one at all, it makes a pass over the lines for each
 // query file, up to the first that is beyond so far.
-fn find_hold<C, A>(ups: &[Numbered<UpLine<C>>], asks: &[Vec<Numbered<AskLine<A>>>]) -> Option<u64>
-    ensures { result ≡ option_map (λ l. l.line) (find (λ l. is_hold_beyond (map said_of (map (λ file. file.items) asks.now)) l.what) ups.now) }
+fn find_hold<C: Drop, A: Drop, U: LineList<UpLine<C>>, F: LineList<AskLine<A>>>(
+    ups: &U,
+    asks: &[F],
+) -> Option<u64>
+    ensures { result ≡ option_map (λ l. l.line) (find (λ l. is_hold_beyond (map said_of (map F.items asks.now)) l.what) (U.items ups.now)) }
 {
     if !has_hold(ups) {
         return None;
     }
     let mut end = first_without_file(ups, asks.len() as u64);
     for (i, file) in asks.iter().enumerate() {
-        end = first_short(&ups[..end], i as u64 + 1, count_queries(file.as_slice()));
+        end = first_short(ups, end, i as u64 + 1, count_queries(file));
     }
     if end == ups.len() {
         return None;
     }
-    Some(ups[end].line)
+    Some(ups.get(end).line)
 }
 
 // The index of the first `hold` line for none of the query files, or the number of lines.
-fn first_without_file<C>(ups: &[Numbered<UpLine<C>>], files: u64) -> usize
-    ensures first { result ≡ position_or_len (λ l. names_no_file files l.what) ups.now }
-    ensures within { result ≤ length ups.now }
+fn first_without_file<C: Drop, U: LineList<UpLine<C>>>(ups: &U, files: u64) -> usize
+    ensures first { result ≡ position_or_len (λ l. names_no_file files l.what) (U.items ups.now) }
+    ensures within { result ≤ length (U.items ups.now) }
 {
-    for (i, line) in ups.iter().enumerate() {
-        if has_no_file(&line.what, files) {
+    for i in 0..ups.len() {
+        if has_no_file(&ups.what(i), files) {
             return i;
         }
     }
@@ -70,17 +74,18 @@ fn has_no_file<C>(what: &UpLine<C>, files: u64) -> bool
     }
 }
 
-// The index of the first `hold` line for more than n queries of file f, or the number of lines.
-fn first_short<C>(ups: &[Numbered<UpLine<C>>], f: u64, n: u64) -> usize
-    ensures first { result ≡ position_or_len (λ l. is_short f n l.what) ups.now }
-    ensures within { result ≤ length ups.now }
+// The index of the first `hold` line for more than n queries of file f among the lines before `end`, or `end`.
+fn first_short<C: Drop, U: LineList<UpLine<C>>>(ups: &U, end: usize, f: u64, n: u64) -> usize
+    requires { end ≤ length (U.items ups.now) }
+    ensures first { result ≡ position_or_len (λ l. is_short f n l.what) (take end (U.items ups.now)) }
+    ensures within { result ≤ end }
 {
-    for (i, line) in ups.iter().enumerate() {
-        if asks_for_more(&line.what, f, n) {
+    for i in 0..end {
+        if asks_for_more(&ups.what(i), f, n) {
             return i;
         }
     }
-    ups.len()
+    end
 }
 
 // Whether this is a `hold` line for more than n queries of file f.
@@ -94,11 +99,11 @@ fn asks_for_more<C>(what: &UpLine<C>, f: u64, n: u64) -> bool
 }
 
 // The first `wait` line that is beyond, where there are so many updates.
-fn find_wait<A>(all: u64, asks: &[Vec<Numbered<AskLine<A>>>]) -> Option<RangeFault>
-    ensures { result ≡ first_wait_beyond all 1 (map (λ file. file.items) asks.now) }
+fn find_wait<A: Drop, F: LineList<AskLine<A>>>(all: u64, asks: &[F]) -> Option<RangeFault>
+    ensures { result ≡ first_wait_beyond all 1 (map F.items asks.now) }
 {
     for (i, file) in asks.iter().enumerate() {
-        if let Some(line) = find_wait_in(all, file.as_slice()) {
+        if let Some(line) = find_wait_in(all, file) {
             return Some(RangeFault {
                 file: i as u64 + 1,
                 line,
@@ -109,12 +114,12 @@ fn find_wait<A>(all: u64, asks: &[Vec<Numbered<AskLine<A>>>]) -> Option<RangeFau
 }
 
 // The number of the first `wait` line of a file that is beyond.
-fn find_wait_in<A>(all: u64, lines: &[Numbered<AskLine<A>>]) -> Option<u64>
-    ensures { result ≡ option_map (λ l. l.line) (find (λ l. is_wait_beyond all l.what) lines.now) }
+fn find_wait_in<A: Drop, F: LineList<AskLine<A>>>(all: u64, lines: &F) -> Option<u64>
+    ensures { result ≡ option_map (λ l. l.line) (find (λ l. is_wait_beyond all l.what) (F.items lines.now)) }
 {
-    for line in lines {
-        if wait_is_beyond(all, &line.what) {
-            return Some(line.line);
+    for i in 0..lines.len() {
+        if wait_is_beyond(all, &lines.what(i)) {
+            return Some(lines.get(i).line);
         }
     }
     None
@@ -131,12 +136,12 @@ fn wait_is_beyond<A>(all: u64, what: &AskLine<A>) -> bool
 }
 
 // The number of updates.
-fn count_updates<C>(ups: &[Numbered<UpLine<C>>]) -> u64
-    ensures { result ≡ length (updates (said_of ups.now)) }
+fn count_updates<C: Drop, U: LineList<UpLine<C>>>(ups: &U) -> u64
+    ensures { result ≡ length (updates (said_of (U.items ups.now))) }
 {
     let mut n: u64 = 0;
-    for line in ups {
-        match line.what {
+    for i in 0..ups.len() {
+        match ups.what(i) {
             UpLine::Call(_) => n += 1,
             UpLine::Hold { .. } => {}
         }
@@ -145,12 +150,12 @@ fn count_updates<C>(ups: &[Numbered<UpLine<C>>]) -> u64
 }
 
 // The number of queries.
-fn count_queries<A>(lines: &[Numbered<AskLine<A>>]) -> u64
-    ensures { result ≡ length (queries 0 (said_of lines.now)) }
+fn count_queries<A: Drop, F: LineList<AskLine<A>>>(lines: &F) -> u64
+    ensures { result ≡ length (queries 0 (said_of (F.items lines.now))) }
 {
     let mut n: u64 = 0;
-    for line in lines {
-        match line.what {
+    for i in 0..lines.len() {
+        match lines.what(i) {
             AskLine::Ask(_) => n += 1,
             AskLine::Wait { .. } => {}
         }

@@ -1,4 +1,4 @@
-ghost use Rattle.std.specs.Prelude.{◌≡◌, ◌+◌, ◌<◌, ◌≤◌, ◌^◌, ℕ, ◌∷◌, [], length, map, MatchOption};
+ghost use Rattle.std.specs.Prelude.{◌≡◌, ◌+◌, ◌<◌, ◌≤◌, ◌^◌, ℕ, ◌∷◌, [], length, map, take, MatchOption};
 ghost use Rattle.std.specs.List.{list_any, position_or_len};
 ghost use Rattle.ck_script.specs.declared.line.AskLine.TheVariants.{Ask};
 ghost use Rattle.ck_script.specs.Script.{said_of, updates};
@@ -6,39 +6,40 @@ ghost use Rattle.ck_script.specs.Checks.{placed, circle_fault};
 ghost use Rattle.ck_script.specs.Fronts.{is_hold, is_circle_with, IsFront, IsStop, IsLonger};
 
 use crate::check::RangeFault;
-use crate::line::{AskLine, Numbered, UpLine};
+use crate::line::{AskLine, UpLine};
+use crate::line_list::LineList;
 
 /// The first `hold` line that would wait for ever, as a line of file 0: of the queries that it waits for one stands
 /// after a `wait` line for more updates than stand before the `hold`, so that the two would wait for each other.
 /// `hold f 0` never does. It makes one pass over the updates for each query file, and one alone where no line is a `hold`.
-pub fn check_circles<C, A>(
-    ups: &[Numbered<UpLine<C>>],
-    asks: &[Vec<Numbered<AskLine<A>>>],
+pub fn check_circles<C: Drop, A: Drop, U: LineList<UpLine<C>>, F: LineList<AskLine<A>>>(
+    ups: &U,
+    asks: &[F],
 ) -> Option<RangeFault>
-    ensures { result ≡ circle_fault ups.now (map (λ file. file.items) asks.now) }
+    ensures { result ≡ circle_fault (U.items ups.now) (map F.items asks.now) }
 {
     if !has_hold(ups) {
         return None;
     }
     let mut end = ups.len();
     for (i, file) in asks.iter().enumerate() {
-        end = first_circle(&ups[..end], i as u64 + 1, file.as_slice());
+        end = first_circle(ups, end, i as u64 + 1, file);
     }
     if end == ups.len() {
         return None;
     }
     Some(RangeFault {
         file: 0,
-        line: ups[end].line,
+        line: ups.get(end).line,
     })
 }
 
 /// Whether there is a `hold` line.
-pub fn has_hold<C>(ups: &[Numbered<UpLine<C>>]) -> bool
-    ensures { result ≡ list_any (λ l. is_hold l.what) ups.now }
+pub fn has_hold<C: Drop, U: LineList<UpLine<C>>>(ups: &U) -> bool
+    ensures { result ≡ list_any (λ l. is_hold l.what) (U.items ups.now) }
 {
-    for line in ups {
-        match line.what {
+    for i in 0..ups.len() {
+        match ups.what(i) {
             UpLine::Call(_) => {}
             UpLine::Hold { .. } => return true,
         }
@@ -46,10 +47,16 @@ pub fn has_hold<C>(ups: &[Numbered<UpLine<C>>]) -> bool
     false
 }
 
-// The index of the first line that is a circle with file f, or the number of lines where there is none.
-fn first_circle<C, A>(ups: &[Numbered<UpLine<C>>], f: u64, lines: &[Numbered<AskLine<A>>]) -> usize
-    ensures first { result ≡ position_or_len (λ l. is_circle_with f (said_of lines.now) l.0 l.1.what) (placed 0 ups.now) }
-    ensures within { result ≤ length ups.now }
+// The index of the first line before `end` that is a circle with file f, or `end` where there is none.
+fn first_circle<C: Drop, A: Drop, U: LineList<UpLine<C>>, F: LineList<AskLine<A>>>(
+    ups: &U,
+    end: usize,
+    f: u64,
+    lines: &F,
+) -> usize
+    requires { end ≤ length (U.items ups.now) }
+    ensures first { result ≡ position_or_len (λ l. is_circle_with f (said_of (F.items lines.now)) l.0 l.1.what) (placed 0 (take end (U.items ups.now))) }
+    ensures within { result ≤ end }
 {
     let mut front = Front {
         at: 0,
@@ -57,15 +64,16 @@ fn first_circle<C, A>(ups: &[Numbered<UpLine<C>>], f: u64, lines: &[Numbered<Ask
         queries: 0,
     };
     let mut m: u64 = 0;
-    for (i, line) in ups.iter().enumerate() {
-        let (next, circle) = look(lines, front, f, m, &line.what);
+    for i in 0..end {
+        let what = ups.what(i);
+        let (next, circle) = look(lines, front, f, m, &what);
         if circle {
             return i;
         }
         front = next;
-        m += updates_on(&line.what);
+        m += updates_on(&what);
     }
-    ups.len()
+    end
 }
 
 // How many updates a line is.
@@ -88,16 +96,16 @@ struct Front {
 }
 
 // Whether a line after m updates is a circle with file f, and the front that was moved on to see it.
-fn look<C, A>(
-    lines: &[Numbered<AskLine<A>>],
+fn look<C, A: Drop, F: LineList<AskLine<A>>>(
+    lines: &F,
     front: Front,
     f: u64,
     m: u64,
     what: &UpLine<C>,
 ) -> (Front, bool)
-    requires { IsFront m lines.now front }
-    ensures front { IsFront m lines.now result.0 }
-    ensures circle { result.1 ≡ is_circle_with f (said_of lines.now) m what.now }
+    requires { IsFront m (F.items lines.now) front }
+    ensures front { IsFront m (F.items lines.now) result.0 }
+    ensures circle { result.1 ≡ is_circle_with f (said_of (F.items lines.now)) m what.now }
 {
     match what {
         UpLine::Call(_) => (front, false),
@@ -112,14 +120,15 @@ fn look<C, A>(
 }
 
 // The front, moved on past each query that needs at most m updates.
-fn moved<A>(lines: &[Numbered<AskLine<A>>], start: Front, m: u64) -> Front
-    requires { IsFront m lines.now start }
-    ensures front { IsFront m lines.now result }
-    ensures stop { IsStop m lines.now result }
+fn moved<A: Drop, F: LineList<AskLine<A>>>(lines: &F, start: Front, m: u64) -> Front
+    requires { IsFront m (F.items lines.now) start }
+    ensures front { IsFront m (F.items lines.now) result }
+    ensures stop { IsStop m (F.items lines.now) result }
 {
     let mut front = start;
     while front.at < lines.len() {
-        match past(front, &lines[front.at].what, m) {
+        let next = past(front, &lines.what(front.at), m);
+        match next {
             Some(longer) => front = longer,
             None => return front,
         }

@@ -6,19 +6,21 @@ ghost use Rattle.ck_script.specs.Grammar.{FileSays, IsFirstFault, IfFault, Adds,
 ghost use Rattle.ck_script.specs.ListGrammar.{edit_words, IsEditLine, edit_verbs, view_words, IsViewLine, view_verbs, HasListFault};
 ghost use Rattle.ck_script.specs.Reading.{IsFaultyFirstLine, IsFaultyLine, TakesLine};
 
+use crate::compact::{CompactKey, CompactLine};
 use crate::fault::{ScriptError, ScriptFault, Why};
 use crate::key_word::KeyWord;
 use crate::line::{AskLine, Numbered, UpLine};
+use crate::lines::Lines;
 use crate::script_line::ScriptLine;
 use ck_history::{Edit, Update};
 use ck_text::first_line;
 use std::alloc::{AllocError, Global};
 
 /// What the lines of an update file say, in order, blank lines and comments left out. A file says at most one thing.
-pub fn read_updates<K: KeyWord>(
+pub fn read_updates<K: KeyWord + CompactKey>(
     alloc: Global,
     bytes: &[u8],
-) -> Result<Vec<Numbered<UpLine<Update<K>>>>, ScriptError>
+) -> Result<Lines<UpLine<Update<K>>>, ScriptError>
     ensures read { IfOk result (λ said. FileSays (IsUpdateLine K.is_key) (update_words K.spelling) bytes.now said.items) }
     ensures only { IfOk result (λ said. (other : _) → FileSays (IsUpdateLine K.is_key) (update_words K.spelling) bytes.now other → other ≡ said.items) }
     ensures fault { IfErr result (λ error. IfFault error
@@ -29,10 +31,10 @@ pub fn read_updates<K: KeyWord>(
 }
 
 /// What the lines of a query file say, in order, blank lines and comments left out. A file says at most one thing.
-pub fn read_queries<K: KeyWord>(
+pub fn read_queries<K: KeyWord + CompactKey>(
     alloc: Global,
     bytes: &[u8],
-) -> Result<Vec<Numbered<AskLine<K>>>, ScriptError>
+) -> Result<Lines<AskLine<K>>, ScriptError>
     ensures read { IfOk result (λ said. FileSays (IsQueryLine K.is_key) (query_words K.spelling) bytes.now said.items) }
     ensures only { IfOk result (λ said. (other : _) → FileSays (IsQueryLine K.is_key) (query_words K.spelling) bytes.now other → other ≡ said.items) }
     ensures fault { IfErr result (λ error. IfFault error
@@ -43,10 +45,10 @@ pub fn read_queries<K: KeyWord>(
 }
 
 /// What `read_updates` reads, and whether a line of it is a `hold`, so that a caller needs no pass of its own to see it.
-pub fn scan_updates<K: KeyWord>(
+pub fn scan_updates<K: KeyWord + CompactKey>(
     alloc: Global,
     bytes: &[u8],
-) -> Result<(Vec<Numbered<UpLine<Update<K>>>>, bool), ScriptError>
+) -> Result<(Lines<UpLine<Update<K>>>, bool), ScriptError>
     ensures read { IfOk result (λ x. FileSays (IsUpdateLine K.is_key) (update_words K.spelling) bytes.now x.0.items) }
     ensures only { IfOk result (λ x. (other : _) → FileSays (IsUpdateLine K.is_key) (update_words K.spelling) bytes.now other → other ≡ x.0.items) }
     ensures holds { IfOk result (λ x. x.1 ≡ any_hold x.0.items) }
@@ -57,10 +59,10 @@ pub fn scan_updates<K: KeyWord>(
 }
 
 /// What `read_queries` reads, and whether a line of it is a `wait`.
-pub fn scan_queries<K: KeyWord>(
+pub fn scan_queries<K: KeyWord + CompactKey>(
     alloc: Global,
     bytes: &[u8],
-) -> Result<(Vec<Numbered<AskLine<K>>>, bool), ScriptError>
+) -> Result<(Lines<AskLine<K>>, bool), ScriptError>
     ensures read { IfOk result (λ x. FileSays (IsQueryLine K.is_key) (query_words K.spelling) bytes.now x.0.items) }
     ensures only { IfOk result (λ x. (other : _) → FileSays (IsQueryLine K.is_key) (query_words K.spelling) bytes.now other → other ≡ x.0.items) }
     ensures waits { IfOk result (λ x. x.1 ≡ list_any (λ l. is_wait l.what) x.0.items) }
@@ -71,7 +73,7 @@ pub fn scan_queries<K: KeyWord>(
 }
 
 /// What the lines of an update file of a list say, in order, blank lines and comments left out. A file says at most one thing.
-pub fn read_edits(alloc: Global, bytes: &[u8]) -> Result<Vec<Numbered<UpLine<Edit>>>, ScriptError>
+pub fn read_edits(alloc: Global, bytes: &[u8]) -> Result<Lines<UpLine<Edit>>, ScriptError>
     ensures read { IfOk result (λ said. FileSays IsEditLine edit_words bytes.now said.items) }
     ensures only { IfOk result (λ said. (other : _) → FileSays IsEditLine edit_words bytes.now other → other ≡ said.items) }
     ensures fault { IfErr result (λ error. IfFault error (IsFirstFault IsEditLine edit_words (HasListFault edit_verbs) bytes.now)) }
@@ -81,7 +83,7 @@ pub fn read_edits(alloc: Global, bytes: &[u8]) -> Result<Vec<Numbered<UpLine<Edi
 }
 
 /// What the lines of a query file of a list say, in order, blank lines and comments left out. A file says at most one thing.
-pub fn read_views(alloc: Global, bytes: &[u8]) -> Result<Vec<Numbered<AskLine<()>>>, ScriptError>
+pub fn read_views(alloc: Global, bytes: &[u8]) -> Result<Lines<AskLine<()>>, ScriptError>
     ensures read { IfOk result (λ said. FileSays IsViewLine view_words bytes.now said.items) }
     ensures only { IfOk result (λ said. (other : _) → FileSays IsViewLine view_words bytes.now other → other ≡ said.items) }
     ensures fault { IfErr result (λ error. IfFault error (IsFirstFault IsViewLine view_words (HasListFault view_verbs) bytes.now)) }
@@ -91,10 +93,7 @@ pub fn read_views(alloc: Global, bytes: &[u8]) -> Result<Vec<Numbered<AskLine<()
 }
 
 /// What `read_edits` reads, and whether a line of it is a `hold`.
-pub fn scan_edits(
-    alloc: Global,
-    bytes: &[u8],
-) -> Result<(Vec<Numbered<UpLine<Edit>>>, bool), ScriptError>
+pub fn scan_edits(alloc: Global, bytes: &[u8]) -> Result<(Lines<UpLine<Edit>>, bool), ScriptError>
     ensures read { IfOk result (λ x. FileSays IsEditLine edit_words bytes.now x.0.items) }
     ensures only { IfOk result (λ x. (other : _) → FileSays IsEditLine edit_words bytes.now other → other ≡ x.0.items) }
     ensures holds { IfOk result (λ x. x.1 ≡ any_hold x.0.items) }
@@ -104,10 +103,7 @@ pub fn scan_edits(
 }
 
 /// What `read_views` reads, and whether a line of it is a `wait`.
-pub fn scan_views(
-    alloc: Global,
-    bytes: &[u8],
-) -> Result<(Vec<Numbered<AskLine<()>>>, bool), ScriptError>
+pub fn scan_views(alloc: Global, bytes: &[u8]) -> Result<(Lines<AskLine<()>>, bool), ScriptError>
     ensures read { IfOk result (λ x. FileSays IsViewLine view_words bytes.now x.0.items) }
     ensures only { IfOk result (λ x. (other : _) → FileSays IsViewLine view_words bytes.now other → other ≡ x.0.items) }
     ensures waits { IfOk result (λ x. x.1 ≡ list_any (λ l. is_wait l.what) x.0.items) }
@@ -117,16 +113,16 @@ pub fn scan_views(
 }
 
 // What the lines of one kind say, and whether a task may have to wait at one of them.
-fn read_lines<L: ScriptLine>(
+fn read_lines<L: ScriptLine + CompactLine>(
     alloc: Global,
     bytes: &[u8],
-) -> Result<(Vec<Numbered<L>>, bool), ScriptError>
+) -> Result<(Lines<L>, bool), ScriptError>
     ensures read { IfOk result (λ x. FileSays L.is_taken L.spelling bytes.now x.0.items) }
     ensures only { IfOk result (λ x. (other : _) → FileSays L.is_taken L.spelling bytes.now other → other ≡ x.0.items) }
     ensures waits { IfOk result (λ x. x.1 ≡ list_any (λ l. L.waits l.what) x.0.items) }
     ensures fault { IfErr result (λ error. IfFault error (IsFirstFault L.is_taken L.spelling L.is_fault bytes.now)) }
 {
-    let mut said = Vec::new(alloc);
+    let mut said = Lines::new(alloc);
     let mut waits = false;
     let mut rest = bytes;
     let mut number: u64 = 0;
@@ -138,8 +134,8 @@ fn read_lines<L: ScriptLine>(
 }
 
 // Adds what the first line of a text says, if it says something. The text after it is left.
-fn take_line<'a, L: ScriptLine>(
-    said: &mut Vec<Numbered<L>>,
+fn take_line<'a, L: ScriptLine + CompactLine>(
+    said: &mut Lines<L>,
     waits: &mut bool,
     number: u64,
     text: &'a [u8],
@@ -165,8 +161,8 @@ fn take_line<'a, L: ScriptLine>(
 }
 
 // Adds what a line says, if it says something.
-fn add_line<L: ScriptLine>(
-    said: &mut Vec<Numbered<L>>,
+fn add_line<L: ScriptLine + CompactLine>(
+    said: &mut Lines<L>,
     waits: &mut bool,
     number: u64,
     line: &[u8],
@@ -185,8 +181,8 @@ fn add_line<L: ScriptLine>(
 }
 
 // Adds what the line with this number says.
-fn add<L: ScriptLine>(
-    said: &mut Vec<Numbered<L>>,
+fn add<L: ScriptLine + CompactLine>(
+    said: &mut Lines<L>,
     waits: &mut bool,
     number: u64,
     what: L,

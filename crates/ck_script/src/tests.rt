@@ -13,6 +13,24 @@ fn fault_of<T: Drop>(read: Result<T, ScriptError>) -> Result<Option<(u64, Why)>,
     }
 }
 
+// The lines, kept as the readers keep them.
+fn kept<L: CompactLine>(alloc: Global, list: &[Numbered<L>]) -> Result<Lines<L>, Fail> {
+    let mut lines = Lines::new(alloc);
+    for line in list {
+        lines.push(*line)?;
+    }
+    Ok(lines)
+}
+
+// What is kept, line by line.
+fn listed<L: CompactLine>(alloc: Global, lines: &Lines<L>) -> Result<Vec<Numbered<L>>, Fail> {
+    let mut list = Vec::new(alloc);
+    for i in 0..lines.len() {
+        list.push(lines.get(i))?;
+    }
+    Ok(list)
+}
+
 #[test]
 fn the_first_fault_of_update_files(rt: HostRuntime) -> Result<(), Fail> {
     let cases = [
@@ -122,7 +140,7 @@ fn lines_have_their_numbers_and_keys_their_words(rt: HostRuntime) -> Result<(), 
             what: UpLine::Call(Update::Tidy),
         },
     ];
-    assert_eq!(rt; said.as_slice(), want.as_slice());
+    assert_eq!(rt; listed(rt.alloc(), &said)?.as_slice(), want.as_slice());
     let mut word = Vec::new(rt.alloc());
     key.print_word(&mut word)?;
     assert_eq!(rt; word.as_slice(), b"18446744073709551616".as_slice());
@@ -132,9 +150,7 @@ fn lines_have_their_numbers_and_keys_their_words(rt: HostRuntime) -> Result<(), 
 // What is kept of a line is most of a run's memory.
 #[test]
 fn a_line_is_kept_in_few_bytes(rt: HostRuntime) {
-    assert_eq!(rt; size_of::<Numbered<UpLine<Update<Key>>>>(), 48);
-    assert_eq!(rt; size_of::<Numbered<AskLine<Key>>>(), 32);
-    // In `Lines` there is one byte more beside each of these.
+    // One byte more is kept beside each of these.
     assert_eq!(rt;
         size_of::<(u64, <UpLine<Update<Key>> as CompactLine>::Rest)>(),
         16
@@ -144,56 +160,43 @@ fn a_line_is_kept_in_few_bytes(rt: HostRuntime) {
 
 #[test]
 fn lines_that_ask_for_too_much(rt: HostRuntime) -> Result<(), Fail> {
-    let set = UpLine::Call(7);
+    let alloc = rt.alloc();
+    let set = UpLine::Call(Edit::Commit);
+    let all = AskLine::Ask(());
     let hold = |file, n| UpLine::Hold { file, n };
     let cases = [
         // three updates and `wait 4`
         (
             [set, set, set],
-            [AskLine::Wait { n: 4 }, AskLine::Ask(1)],
+            [AskLine::Wait { n: 4 }, all],
             Some((1, 1)),
             None,
         ),
-        (
-            [set, set, set],
-            [AskLine::Ask(1), AskLine::Wait { n: 3 }],
-            None,
-            None,
-        ),
-        (
-            [set, hold(0, 0), set],
-            [AskLine::Ask(1), AskLine::Ask(1)],
-            Some((0, 2)),
-            None,
-        ),
-        (
-            [set, hold(2, 0), set],
-            [AskLine::Ask(1), AskLine::Ask(1)],
-            Some((0, 2)),
-            None,
-        ),
+        ([set, set, set], [all, AskLine::Wait { n: 3 }], None, None),
+        ([set, hold(0, 0), set], [all, all], Some((0, 2)), None),
+        ([set, hold(2, 0), set], [all, all], Some((0, 2)), None),
         (
             [hold(1, 2), set, hold(1, 3)],
-            [AskLine::Ask(1), AskLine::Ask(1)],
+            [all, all],
             Some((0, 3)),
             None,
         ),
         // `hold 1 1; set 1 10` with `wait 1; get 1`, and a later `hold`
         (
             [hold(1, 1), set, hold(1, 1)],
-            [AskLine::Wait { n: 1 }, AskLine::Ask(1)],
+            [AskLine::Wait { n: 1 }, all],
             None,
             Some((0, 1)),
         ),
         (
             [hold(1, 0), set, hold(1, 1)],
-            [AskLine::Wait { n: 1 }, AskLine::Ask(1)],
+            [AskLine::Wait { n: 1 }, all],
             None,
             None,
         ),
         (
             [hold(1, 1), set, set],
-            [AskLine::Ask(1), AskLine::Wait { n: 1 }],
+            [all, AskLine::Wait { n: 1 }],
             None,
             None,
         ),
@@ -222,16 +225,16 @@ fn lines_that_ask_for_too_much(rt: HostRuntime) -> Result<(), Fail> {
                 line: 2,
                 what: asked[1],
             },
-        ]
-        .to_vec(rt.alloc())?;
-        let asks = [file];
+        ];
+        let ups = kept(alloc, ups.as_slice())?;
+        let asks = [kept(alloc, file.as_slice())?];
         assert_eq!(rt;
-            check_ranges(ups.as_slice(), asks.as_slice()).map(|x| (x.file, x.line)),
+            check_ranges(&ups, asks.as_slice()).map(|x| (x.file, x.line)),
             range
         );
         if range.is_none() {
             assert_eq!(rt;
-                check_circles(ups.as_slice(), asks.as_slice()).map(|x| (x.file, x.line)),
+                check_circles(&ups, asks.as_slice()).map(|x| (x.file, x.line)),
                 circle
             );
         }
@@ -242,43 +245,12 @@ fn lines_that_ask_for_too_much(rt: HostRuntime) -> Result<(), Fail> {
 // `set 1 10; hold 1 2; set 1 20` with `wait 1; get 1; wait 2; get 1`
 #[test]
 fn a_hold_for_a_query_after_a_wait_for_more(rt: HostRuntime) -> Result<(), Fail> {
-    let ups = [
-        Numbered {
-            line: 1,
-            what: UpLine::Call(10),
-        },
-        Numbered {
-            line: 2,
-            what: UpLine::Hold { file: 1, n: 2 },
-        },
-        Numbered {
-            line: 3,
-            what: UpLine::Call(20),
-        },
-    ];
-    let file = [
-        Numbered {
-            line: 1,
-            what: AskLine::Wait { n: 1 },
-        },
-        Numbered {
-            line: 2,
-            what: AskLine::Ask(1),
-        },
-        Numbered {
-            line: 3,
-            what: AskLine::Wait { n: 2 },
-        },
-        Numbered {
-            line: 4,
-            what: AskLine::Ask(1),
-        },
-    ]
-    .to_vec(rt.alloc())?;
-    let asks = [file];
-    assert_eq!(rt; check_ranges(ups.as_slice(), asks.as_slice()), None);
+    let alloc = rt.alloc();
+    let ups = read_updates::<Key>(alloc, b"set 1 10\nhold 1 2\nset 1 20".as_slice())?;
+    let asks = [read_queries::<Key>(alloc, b"wait 1\nget 1\nwait 2\nget 1".as_slice())?];
+    assert_eq!(rt; check_ranges(&ups, asks.as_slice()), None);
     assert_eq!(rt;
-        check_circles(ups.as_slice(), asks.as_slice()),
+        check_circles(&ups, asks.as_slice()),
         Some(RangeFault { file: 0, line: 2 })
     );
     Ok(())
@@ -288,38 +260,40 @@ fn a_hold_for_a_query_after_a_wait_for_more(rt: HostRuntime) -> Result<(), Fail>
 #[test]
 fn lines_are_kept_in_rows(rt: HostRuntime) -> Result<(), Fail> {
     let alloc = rt.alloc();
-    let file =
-        "set 1 5\n\n# a comment\nput 18446744073709551616 6\ndel 18446744073709551615\ntidy\n\nset 340282366920938463463374607431768211454 18446744073709551615";
-    let said: Vec<Numbered<UpLine<Update<Key>>>> = read_updates(alloc, file.as_bytes())?;
+    let short = Key::new(18446744073709551615).ok_or("key")?;
+    let wide = Key::new(18446744073709551616).ok_or("key")?;
+    let widest = Key::new(340282366920938463463374607431768211454).ok_or("key")?;
+    let said = [
+        (1, UpLine::Call(Update::Set(short, 5))),
+        (4, UpLine::Call(Update::Put(wide, 6))),
+        (5, UpLine::Call(Update::Del(short))),
+        (6, UpLine::Call(Update::Tidy)),
+        (8, UpLine::Call(Update::Set(widest, u64::MAX))),
+        (u64::MAX, UpLine::Hold { file: 64, n: 3 }),
+    ];
     let mut ups = Lines::new(alloc);
-    for line in &said {
-        ups.push(*line)?;
+    for (line, what) in said {
+        ups.push(Numbered { line, what })?;
     }
-    let hold: Numbered<UpLine<Update<Key>>> = Numbered {
-        line: u64::MAX,
-        what: UpLine::Hold { file: 64, n: 3 },
-    };
-    ups.push(hold)?;
     assert_eq!(rt; ups.len(), 6);
-    for (i, line) in said.iter().enumerate() {
+    for (i, (line, what)) in said.into_iter().enumerate() {
         assert!(rt; i < ups.len());
-        assert_eq!(rt; ups.get(i), *line);
-        assert_eq!(rt; ups.what(i), line.what);
+        assert_eq!(rt; ups.get(i), Numbered { line, what });
+        assert_eq!(rt; ups.what(i), what);
     }
-    assert!(rt; 5 < ups.len());
-    assert_eq!(rt; ups.get(5), hold);
 
-    let asked: Vec<Numbered<AskLine<Key>>> = read_queries(
-        alloc,
-        b"get 7\nwait 3\n\nget 18446744073709551616\n",
-    )?;
+    let asked = [
+        (1, AskLine::Ask(short)),
+        (2, AskLine::Wait { n: 3 }),
+        (4, AskLine::Ask(wide)),
+    ];
     let mut asks = Lines::new(alloc);
-    for line in &asked {
-        asks.push(*line)?;
+    for (line, what) in asked {
+        asks.push(Numbered { line, what })?;
     }
-    for (i, line) in asked.iter().enumerate() {
+    for (i, (line, what)) in asked.into_iter().enumerate() {
         assert!(rt; i < asks.len());
-        assert_eq!(rt; asks.get(i), *line);
+        assert_eq!(rt; asks.get(i), Numbered { line, what });
     }
     Ok(())
 }
@@ -370,7 +344,7 @@ fn the_first_fault_of_query_files_of_lists(rt: HostRuntime) -> Result<(), Fail> 
 #[test]
 fn edits_and_views_have_the_numbers_of_their_lines(rt: HostRuntime) -> Result<(), Fail> {
     let alloc = rt.alloc();
-    let (edits, holds) = scan_edits(alloc, b"drop 3\n\nhold 2 1\ncommit".as_slice())?;
+    let (edits, holds) = scan_edits(alloc, b"drop 3\n\nhold 2 1\nadd 7\ncommit".as_slice())?;
     let want = [
         Numbered {
             line: 1,
@@ -382,24 +356,28 @@ fn edits_and_views_have_the_numbers_of_their_lines(rt: HostRuntime) -> Result<()
         },
         Numbered {
             line: 4,
+            what: UpLine::Call(Edit::Add(7)),
+        },
+        Numbered {
+            line: 5,
             what: UpLine::Call(Edit::Commit),
         },
     ];
-    assert_eq!(rt; edits.as_slice(), want.as_slice());
+    assert_eq!(rt; listed(alloc, &edits)?.as_slice(), want.as_slice());
     assert!(rt; holds);
     let (views, waits) = scan_views(alloc, b"#\nall\n".as_slice())?;
     let want = [Numbered {
         line: 2,
         what: AskLine::Ask(()),
     }];
-    assert_eq!(rt; views.as_slice(), want.as_slice());
+    assert_eq!(rt; listed(alloc, &views)?.as_slice(), want.as_slice());
     assert!(rt; !waits);
     Ok(())
 }
 
 // A file of so many `all` lines, of which `wait 0` stands on every second line.
-fn views_of(alloc: Global, count: u64) -> Result<Vec<Numbered<AskLine<()>>>, Fail> {
-    let mut lines = Vec::new(alloc);
+fn views_of(alloc: Global, count: u64) -> Result<Lines<AskLine<()>>, Fail> {
+    let mut lines = Lines::new(alloc);
     for i in 0..count {
         lines.push(Numbered {
             line: i.wrapping_mul(2),

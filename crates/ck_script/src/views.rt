@@ -4,18 +4,19 @@ ghost use Rattle.ck_script.specs.Views.{query_lines, many_fault};
 
 use crate::check::RangeFault;
 use crate::line::{AskLine, Numbered};
+use crate::line_list::LineList;
 
 /// How many `all` lines the query files of a run may have together.
 pub const MOST_VIEWS: u64 = 1000;
 
 /// The first `all` line that is one too many, counted over the query files in order, where there are more than
 /// `MOST_VIEWS` of them.
-pub fn check_views(asks: &[Vec<Numbered<AskLine<()>>>]) -> Option<RangeFault>
-    ensures { result ≡ many_fault (map (λ file. file.items) asks.now) }
+pub fn check_views<F: LineList<AskLine<()>>>(asks: &[F]) -> Option<RangeFault>
+    ensures { result ≡ many_fault (map F.items asks.now) }
 {
     let mut left = MOST_VIEWS;
     for (i, file) in asks.iter().enumerate() {
-        match find_query(file.as_slice(), left) {
+        match find_query(file, left) {
             Ok(line) => {
                 return Some(RangeFault {
                     file: i as u64 + 1,
@@ -29,12 +30,12 @@ pub fn check_views(asks: &[Vec<Numbered<AskLine<()>>>]) -> Option<RangeFault>
 }
 
 // The number of the line of the query that n others stand before, or, where there is none, how many are wanting to n.
-fn find_query<A>(lines: &[Numbered<AskLine<A>>], n: u64) -> Result<u64, u64>
-    ensures { MatchResult result (λ line. slice_get (query_lines lines.now) n ≡ Some line) (λ fewer. fewer + length (query_lines lines.now) ≡ n) }
+fn find_query<A: Drop, F: LineList<AskLine<A>>>(lines: &F, n: u64) -> Result<u64, u64>
+    ensures { MatchResult result (λ line. slice_get (query_lines (F.items lines.now)) n ≡ Some line) (λ fewer. fewer + length (query_lines (F.items lines.now)) ≡ n) }
 {
     let mut left = n;
-    for line in lines {
-        match next_query(line, left) {
+    for i in 0..lines.len() {
+        match next_query(&lines.get(i), left) {
             Ok(number) => return Ok(number),
             Err(fewer) => left = fewer,
         }

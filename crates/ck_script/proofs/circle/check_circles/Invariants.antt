@@ -8,6 +8,6 @@ use Rattle.ck_script.proofs.circle.check_circles.Given as goal
 -- the first line that is a circle with one of the files so far
 abbrev pub invariant-loop-i : goal.invariant-loop-i
 invariant-loop-i g l = record {
-  first : l.end ≡ position_or_len (λ x. is_circle_within l.i (map said_of (map (λ file. file.items) l.asks)) x.0 x.1.what) (placed 0 l.ups);
-  within : l.end ≤ length l.ups;
+  first : l.end ≡ position_or_len (λ x. is_circle_within l.i (map said_of (map g.F.LineList.items l.asks)) x.0 x.1.what) (placed 0 (g.U.LineList.items l.ups));
+  within : l.end ≤ length (g.U.LineList.items l.ups);
 }

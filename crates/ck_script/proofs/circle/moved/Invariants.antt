@@ -3,7 +3,7 @@ use Rattle.ck_script.specs.Fronts.{IsFront}
 use Rattle.ck_script.proofs.circle.moved.Given as goal
 
 abbrev pub invariant-loop-front : goal.invariant-loop-front
-invariant-loop-front g l = IsFront l.m l.lines l.front
+invariant-loop-front g l = IsFront l.m (g.F.LineList.items l.lines) l.front
 
 abbrev pub decreases-loop-front : goal.decreases-loop-front
-decreases-loop-front g l = length l.lines - l.front.at
+decreases-loop-front g l = length (g.F.LineList.items l.lines) - l.front.at

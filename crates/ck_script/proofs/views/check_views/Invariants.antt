@@ -5,4 +5,4 @@ use Rattle.ck_script.proofs.views.check_views.Given as goal
 
 -- the query is in the files that are left, with so many before it
 abbrev pub invariant-loop-i : goal.invariant-loop-i
-invariant-loop-i l = slice_get (query_places (l.i + 1) (map (λ file. file.items) (drop l.i l.asks))) l.left ≡ many_fault (map (λ file. file.items) l.asks)
+invariant-loop-i g l = slice_get (query_places (l.i + 1) (map g.F.LineList.items (drop l.i l.asks))) l.left ≡ many_fault (map g.F.LineList.items l.asks)
