@@ -1,12 +1,14 @@
 -- Queries beside their answers.
-use Rattle.std.proofs.Common.{◌≡◌, ℕ, suc, ◌+◌, ◌<◌, ◌≤◌, List, [], ◌∷◌, ◌++◌, length, map, take, drop, get_or, Option, Vec, refl, sym, ap, subst, ◌∙◌, append-nil, append_assoc, arith}
+use Rattle.std.proofs.Common.{◌≡◌, ℕ, suc, ◌+◌, ◌<◌, ◌≤◌, List, [], ◌∷◌, ◌++◌, length, map, drop, get_or, Option, Some, Vec, refl, sym, ap, subst, ◌∙◌, append-nil, append_assoc, arith}
 use Rattle.std.specs.declared.alloc.Global.{Global}
-use Rattle.std.proofs.lemmas.List.{at_drop_more, drop_all, take-append-drop}
+use Rattle.std.proofs.lemmas.List.{at_drop_more, drop_all}
+use Rattle.std.specs.List.{slice_get}
 use Rattle.ck_io.specs.Sink.{AppendsPrefix}
 use Rattle.ck_script.specs.declared.line.Numbered.{Numbered}
 use Rattle.ck_script.specs.declared.line.AskLine.{AskLine}
 use Rattle.ck_script.specs.declared.line.AskLine.TheVariants.{Ask, Wait}
 use Rattle.ck_script.specs.Script.{said_of}
+use Rattle.ck_script.proofs.Standing.{said_there}
 use Rattle.ck_report.specs.declared.asked.Asked.{Asked}
 use Rattle.ck_report.specs.Text.{answer_lines, file_lines}
 use Rattle.ck_report.specs.Numbered.{numbered, answer_line}
@@ -38,42 +40,23 @@ module _ {K : Type 0} where
       append_assoc old (pair ∷ []) (asked_lines ls (drop (i + 1) bs)) ∙ ap (λ (l : List (Asked K)). old ++ l) (sym same)
 
   -- one line more
-  pub paired_more : (lines : List (Numbered (AskLine K))) (answers : List (Option ℕ)) (i next after : ℕ) (line : Numbered (AskLine K)) (old new whole : List (Asked K)) (rest : List (AskLine K)) → i < length lines → line ≡ get_or lines i line
-      → ((later : List (AskLine K)) → new ++ asked_lines later (drop after answers) ≡ old ++ asked_lines (line.what ∷ later) (drop next answers))
-      → old ++ asked_lines (said_of (drop i lines) ++ rest) (drop next answers) ≡ whole → new ++ asked_lines (said_of (drop (i + 1) lines) ++ rest) (drop after answers) ≡ whole
-  paired_more lines answers i next after line old new whole rest lt e step before =
-      let here : asked_lines (said_of (drop i lines) ++ rest) (drop next answers) ≡ asked_lines (line.what ∷ (said_of (drop (i + 1) lines) ++ rest)) (drop next answers) =
-      at_drop_more (λ ls. asked_lines (said_of ls ++ rest) (drop next answers)) lines i line lt ∙ ap (λ (l : Numbered (AskLine K)). asked_lines (l.what ∷ (said_of (drop (i + 1) lines) ++ rest)) (drop next answers)) (sym e) in
-      step (said_of (drop (i + 1) lines) ++ rest) ∙ (ap (λ (l : List (Asked K)). old ++ l) (sym here) ∙ before)
+  pub paired_more : (lines : List (Numbered (AskLine K))) (answers : List (Option ℕ)) (i next after : ℕ) (what : AskLine K) (old new whole : List (Asked K)) → slice_get (said_of lines) i ≡ Some what
+      → ((later : List (AskLine K)) → new ++ asked_lines later (drop after answers) ≡ old ++ asked_lines (what ∷ later) (drop next answers))
+      → old ++ asked_lines (said_of (drop i lines)) (drop next answers) ≡ whole → new ++ asked_lines (said_of (drop (i + 1) lines)) (drop after answers) ≡ whole
+  paired_more lines answers i next after what old new whole is step before =
+      step (said_of (drop (i + 1) lines)) ∙ (ap (λ (ls : List (AskLine K)). old ++ asked_lines ls (drop next answers)) (sym (said_there lines i what is)) ∙ before)
 
-  -- after the last line
-  pub paired_end : (lines : List (Numbered (AskLine K))) (answers : List (Option ℕ)) (i next : ℕ) (block whole : List (Asked K)) (rest : List (AskLine K)) → length lines ≤ i
-      → block ++ asked_lines (said_of (drop i lines) ++ rest) (drop next answers) ≡ whole → block ++ asked_lines rest (drop next answers) ≡ whole
-  paired_end lines answers i next block whole rest le before =
-      sym (ap (λ (ls : List (Numbered (AskLine K))). block ++ asked_lines (said_of ls ++ rest) (drop next answers)) (drop_all i lines le)) ∙ before
+  -- files, however they are kept
+  module _ {F : Type 0} (items : F → List (Numbered (AskLine K))) where
+    abbrev pub paired : List F → List (Vec (Option ℕ) Global) → List (List (Asked K))
+    paired asks answers = asked_of_files (map said_of (map items asks)) (map (λ file. file.items) answers)
 
-  said_append : (xs ys : List (Numbered (AskLine K))) → said_of (xs ++ ys) ≡ said_of xs ++ said_of ys
-  said_append [] ys = refl
-  said_append (x ∷ xs) ys = ap (λ (ls : List (AskLine K)). x.what ∷ ls) (said_append xs ys)
-
-  -- the pairs of a round, and those of the later rounds
-  pub round_paired : (rest front back : List (Numbered (AskLine K))) (n : ℕ) (left left' : List (Option ℕ)) (given : ℕ) (block : List (Asked K)) → front ≡ take n rest → back ≡ drop n rest → left' ≡ drop given left
-      → ((later : List (AskLine K)) → block ++ asked_lines later (drop given left) ≡ asked_lines (said_of front ++ later) left)
-      → block ++ asked_lines (said_of back) left' ≡ asked_lines (said_of rest) left
-  round_paired rest front back n left left' given block is_front is_back is_left each =
-      let whole : said_of front ++ said_of back ≡ said_of rest =
-      sym (said_append front back) ∙ (ap (λ (f : List (Numbered (AskLine K))). said_of (f ++ back)) is_front ∙ (ap (λ (b : List (Numbered (AskLine K))). said_of (take n rest ++ b)) is_back ∙ ap said_of (take-append-drop n rest))) in
-      ap (λ (l : List (Option ℕ)). block ++ asked_lines (said_of back) l) is_left ∙ (each (said_of back) ∙ ap (λ (ls : List (AskLine K)). asked_lines ls left) whole)
-
-  abbrev pub paired : List (Vec (Numbered (AskLine K)) Global) → List (Vec (Option ℕ) Global) → List (List (Asked K))
-  paired asks answers = asked_of_files (map said_of (map (λ file. file.items) asks)) (map (λ file. file.items) answers)
-
-  -- one file more
-  paired_first : (asks : List (Vec (Numbered (AskLine K)) Global)) (answers : List (Vec (Option ℕ) Global)) (i : ℕ) (file : Vec (Numbered (AskLine K)) Global) (bs : Vec (Option ℕ) Global) → i < length asks → i < length answers → file ≡ get_or asks i file → bs ≡ get_or answers i bs
-      → paired (drop i asks) (drop i answers) ≡ asked_lines (said_of file.items) bs.items ∷ paired (drop (i + 1) asks) (drop (i + 1) answers)
-  paired_first asks answers i file bs lt lt' e e' =
-      at_drop_more (λ fs. paired fs (drop i answers)) asks i file lt ∙ (ap (λ (f : Vec (Numbered (AskLine K)) Global). paired (f ∷ drop (i + 1) asks) (drop i answers)) (sym e)
-      ∙ (at_drop_more (λ given. paired (file ∷ drop (i + 1) asks) given) answers i bs lt' ∙ ap (λ (b : Vec (Option ℕ) Global). paired (file ∷ drop (i + 1) asks) (b ∷ drop (i + 1) answers)) (sym e')))
+    -- one file more
+    pub paired_first : (asks : List F) (answers : List (Vec (Option ℕ) Global)) (i : ℕ) (file : F) (bs : Vec (Option ℕ) Global) → i < length asks → i < length answers → file ≡ get_or asks i file → bs ≡ get_or answers i bs
+        → paired (drop i asks) (drop i answers) ≡ asked_lines (said_of (items file)) bs.items ∷ paired (drop (i + 1) asks) (drop (i + 1) answers)
+    paired_first asks answers i file bs lt lt' e e' =
+        at_drop_more (λ fs. paired fs (drop i answers)) asks i file lt ∙ (ap (λ (f : F). paired (f ∷ drop (i + 1) asks) (drop i answers)) (sym e)
+        ∙ (at_drop_more (λ given. paired (file ∷ drop (i + 1) asks) given) answers i bs lt' ∙ ap (λ (b : Vec (Option ℕ) Global). paired (file ∷ drop (i + 1) asks) (b ∷ drop (i + 1) answers)) (sym e')))
 
 numbered_append : {X : Type 0} (line_of : ℕ → X → List ℕ) (before : ℕ) (xs ys : List X) → numbered line_of before (xs ++ ys) ≡ numbered line_of before xs ++ numbered line_of (before + length xs) ys
 numbered_append line_of before [] ys = let place : before ≡ before + 0 = omega arith in ap (λ n. numbered line_of n ys) place
@@ -93,11 +76,11 @@ module _ {K : Type 0} (spelling : K → List ℕ) where
 
   -- all pairs of a file were printed, or a put failed
   module _ (t u : Option (List ℕ)) (f : ℕ) (pairs : List (Asked K)) (old : List ℕ) where
-    pub answers_whole : (last : List ℕ) (before : ℕ) (rest : List (Numbered (AskLine K))) (left : List (Option ℕ)) → length rest ≤ 0
-        → IsStreamed t u (old ++ numbered (answer_line spelling f) 0 pairs) (last ++ numbered (answer_line spelling f) before (asked_lines (said_of rest) left)) → IsStreamed t u (old ++ answer_lines spelling f 1 pairs) last
-    answers_whole last before [] left le goes =
-        subst (λ w. IsStreamed t u (old ++ w) last) (answer_lines_are spelling f 0 pairs) (streamed_as t u (old ++ numbered (answer_line spelling f) 0 pairs) (last ++ []) last goes (append-nil last))
-    answers_whole last before (l ∷ rest) left le goes = absurd (omega (arith, le))
+    pub answers_whole : (last : List ℕ) (before : ℕ) (rest : List (AskLine K)) (left : List (Option ℕ)) → rest ≡ []
+        → IsStreamed t u (old ++ numbered (answer_line spelling f) 0 pairs) (last ++ numbered (answer_line spelling f) before (asked_lines rest left)) → IsStreamed t u (old ++ answer_lines spelling f 1 pairs) last
+    answers_whole last before rest left none goes =
+        let ends = ap (λ (ls : List (AskLine K)). last ++ numbered (answer_line spelling f) before (asked_lines ls left)) none ∙ append-nil last in
+        subst (λ w. IsStreamed t u (old ++ w) last) (answer_lines_are spelling f 0 pairs) (streamed_as t u (old ++ numbered (answer_line spelling f) 0 pairs) _ last goes ends)
 
     pub answers_stopped : (left : List ℕ) → IsStreamed t u (old ++ numbered (answer_line spelling f) 0 pairs) left → AppendsPrefix t u (old ++ answer_lines spelling f 1 pairs)
     answers_stopped left goes = subst (λ w. AppendsPrefix t u (old ++ w)) (answer_lines_are spelling f 0 pairs) (streamed_stopped t u (old ++ numbered (answer_line spelling f) 0 pairs) left goes)
@@ -106,8 +89,8 @@ module _ {K : Type 0} (spelling : K → List ℕ) where
     answers_failing v before rest goes failed = subst (λ w. AppendsPrefix t v (old ++ w)) (answer_lines_are spelling f 0 pairs) (streamed_failing t u v (old ++ numbered (answer_line spelling f) 0 pairs) before rest goes failed)
 
   -- the lines of one file more
-  pub next_file : (asks : List (Vec (Numbered (AskLine K)) Global)) (answers : List (Vec (Option ℕ) Global)) (i : ℕ) (file : Vec (Numbered (AskLine K)) Global) (bs : Vec (Option ℕ) Global) (buffer : List ℕ) → i < length asks → length asks ≡ length answers → file ≡ get_or asks i file → bs ≡ get_or answers i bs
-      → buffer ++ file_lines spelling (i + 1) (paired (drop i asks) (drop i answers)) ≡ (buffer ++ answer_lines spelling (i + 1) 1 (asked_lines (said_of file.items) bs.items)) ++ file_lines spelling (i + 1 + 1) (paired (drop (i + 1) asks) (drop (i + 1) answers))
-  next_file asks answers i file bs buffer lt long e e' =
-      ap (λ (fs : List (List (Asked K))). buffer ++ file_lines spelling (i + 1) fs) (paired_first asks answers i file bs lt (omega (arith, long)) e e')
-      ∙ sym (append_assoc buffer (answer_lines spelling (i + 1) 1 (asked_lines (said_of file.items) bs.items)) (file_lines spelling (i + 1 + 1) (paired (drop (i + 1) asks) (drop (i + 1) answers))))
+  pub next_file : {F : Type 0} (items : F → List (Numbered (AskLine K))) (asks : List F) (answers : List (Vec (Option ℕ) Global)) (i : ℕ) (file : F) (bs : Vec (Option ℕ) Global) (buffer : List ℕ) → i < length asks → length asks ≡ length answers → file ≡ get_or asks i file → bs ≡ get_or answers i bs
+      → buffer ++ file_lines spelling (i + 1) (paired items (drop i asks) (drop i answers)) ≡ (buffer ++ answer_lines spelling (i + 1) 1 (asked_lines (said_of (items file)) bs.items)) ++ file_lines spelling (i + 1 + 1) (paired items (drop (i + 1) asks) (drop (i + 1) answers))
+  next_file items asks answers i file bs buffer lt long e e' =
+      ap (λ (fs : List (List (Asked K))). buffer ++ file_lines spelling (i + 1) fs) (paired_first items asks answers i file bs lt (omega (arith, long)) e e')
+      ∙ sym (append_assoc buffer (answer_lines spelling (i + 1) 1 (asked_lines (said_of (items file)) bs.items)) (file_lines spelling (i + 1 + 1) (paired items (drop (i + 1) asks) (drop (i + 1) answers))))

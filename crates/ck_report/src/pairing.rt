@@ -5,24 +5,27 @@ ghost use Rattle.ck_script.specs.Script.{said_of};
 ghost use Rattle.ck_report.specs.Pairing.{asked_lines};
 
 use crate::asked::Asked;
-use ck_script::{AskLine, Numbered};
+use ck_script::{AskLine, LineList};
 use std::alloc::AllocError;
 
-/// Puts the queries among these lines beside their answers, the first of these, into a block that is empty. Returns how many
-/// answers are done.
-pub fn pair_block<K: Copy>(
+/// Puts the queries among the lines from `start` on, before `end`, beside their answers, the first of these, into a block
+/// that is empty. Returns how many answers are done.
+pub fn pair_block<K: Copy, F: LineList<AskLine<K>>>(
     block: &mut Vec<Asked<K>>,
-    lines: &[Numbered<AskLine<K>>],
+    lines: &F,
+    start: usize,
+    end: usize,
     answers: &[Option<u64>],
 ) -> Result<usize, AllocError>
-    requires { block.old.items ≡ [] }
-    ensures paired { IfOk result (λ done. (later : List (AskLine K)) → block.new.items ++ asked_lines later (drop done answers.now) ≡ asked_lines (said_of lines.now ++ later) answers.now) }
+    requires empty { block.old.items ≡ [] }
+    requires lines { (start ≤ end) × (end ≤ length (F.items lines.now)) }
+    ensures paired { IfOk result (λ done. block.new.items ++ asked_lines (said_of (drop end (F.items lines.now))) (drop done answers.now) ≡ asked_lines (said_of (drop start (F.items lines.now))) answers.now) }
     ensures within { IfOk result (λ done. done ≤ length answers.now) }
-    ensures count { IfOk result (λ _. length block.new.items ≤ length lines.now) }
+    ensures count { IfOk result (λ _. start + length block.new.items ≤ end) }
 {
     let mut next = 0;
-    for i in 0..lines.len() {
-        next = push_pair(block, &lines[i].what, answers, next)?;
+    for i in start..end {
+        next = push_pair(block, &lines.what(i), answers, next)?;
     }
     Ok(next)
 }

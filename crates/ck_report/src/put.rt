@@ -14,7 +14,7 @@ use crate::pairing::pair_block;
 use crate::tasks::Tasks;
 use ck_history::Reply;
 use ck_io::{Sink, SinkFailed, put_all};
-use ck_script::{AskLine, KeyWord, Numbered};
+use ck_script::{AskLine, KeyWord, LineList};
 use std::alloc::{AllocError, Global};
 use std::thread::Threads;
 
@@ -57,19 +57,19 @@ pub const ROOM: usize = FULL + 64 * 128;
 /// Puts a report: the replies, the answers to the queries of each query file, and the pairs at the end. It offers to each put all that is
 /// left, or the next 65,536 bytes where more is left. Where it fails, the sink took a prefix of the report. Up to `tasks`
 /// tasks print the lines of a part that has many; what is put doesn't hang on how many.
-pub fn put_report<R: Threads + Sync, S: Sink, K: KeyWord + Sync>(
+pub fn put_report<R: Threads + Sync, S: Sink, K: KeyWord + Sync, F: LineList<AskLine<K>>>(
     rt: &R,
     alloc: Global,
     tasks: u8,
     sink: &mut S,
     replies: &[Reply],
-    asks: &[Vec<Numbered<AskLine<K>>>],
+    asks: &[F],
     answers: &[Vec<Option<u64>>],
     pairs: &[(K, u64)],
 ) -> Result<(), PutError>
     requires { length asks.now ≡ length answers.now }
-    ensures all { OnOk result (S.taken sink.new ≡ appended (S.taken sink.old) (report_text K.spelling replies.now (asked_of_files (map said_of (map (λ file. file.items) asks.now)) (map (λ file. file.items) answers.now)) pairs.now)) }
-    ensures prefix { OnErr result (AppendsPrefix (S.taken sink.old) (S.taken sink.new) (report_text K.spelling replies.now (asked_of_files (map said_of (map (λ file. file.items) asks.now)) (map (λ file. file.items) answers.now)) pairs.now)) }
+    ensures all { OnOk result (S.taken sink.new ≡ appended (S.taken sink.old) (report_text K.spelling replies.now (asked_of_files (map said_of (map F.items asks.now)) (map (λ file. file.items) answers.now)) pairs.now)) }
+    ensures prefix { OnErr result (AppendsPrefix (S.taken sink.old) (S.taken sink.new) (report_text K.spelling replies.now (asked_of_files (map said_of (map F.items asks.now)) (map (λ file. file.items) answers.now)) pairs.now)) }
     ensures cause { IfErr result (λ error. IsPutCause error (S.faults sink.old) (S.faults sink.new)) }
     ensures lasting { S.faults sink.old ≤ S.faults sink.new }
 {
@@ -153,16 +153,16 @@ fn put_replies<R: Threads + Sync, S: Sink>(
 }
 
 // The lines of the answers of each file.
-fn put_files<R: Threads + Sync, S: Sink, K: KeyWord + Sync>(
+fn put_files<R: Threads + Sync, S: Sink, K: KeyWord + Sync, F: LineList<AskLine<K>>>(
     tasks: &Tasks<R>,
     sink: &mut S,
     buffer: &mut Vec<u8>,
-    asks: &[Vec<Numbered<AskLine<K>>>],
+    asks: &[F],
     answers: &[Vec<Option<u64>>],
 ) -> Result<(), PutError>
     requires { length asks.now ≡ length answers.now }
-    ensures ok { OnOk result (IsStreamed (S.taken sink.old) (S.taken sink.new) (buffer.old.items ++ file_lines K.spelling 1 (asked_of_files (map said_of (map (λ file. file.items) asks.now)) (map (λ file. file.items) answers.now))) buffer.new.items) }
-    ensures err { OnErr result (AppendsPrefix (S.taken sink.old) (S.taken sink.new) (buffer.old.items ++ file_lines K.spelling 1 (asked_of_files (map said_of (map (λ file. file.items) asks.now)) (map (λ file. file.items) answers.now)))) }
+    ensures ok { OnOk result (IsStreamed (S.taken sink.old) (S.taken sink.new) (buffer.old.items ++ file_lines K.spelling 1 (asked_of_files (map said_of (map F.items asks.now)) (map (λ file. file.items) answers.now))) buffer.new.items) }
+    ensures err { OnErr result (AppendsPrefix (S.taken sink.old) (S.taken sink.new) (buffer.old.items ++ file_lines K.spelling 1 (asked_of_files (map said_of (map F.items asks.now)) (map (λ file. file.items) answers.now)))) }
     ensures cause { IfErr result (λ error. IsPutCause error (S.faults sink.old) (S.faults sink.new)) }
     ensures lasting { S.faults sink.old ≤ S.faults sink.new }
 {
@@ -174,31 +174,31 @@ fn put_files<R: Threads + Sync, S: Sink, K: KeyWord + Sync>(
 
 // The lines of the answers of one file, put round by round. What was asked is put beside its answer for one round alone, so
 // that no second list of all keys is made.
-fn put_answers<R: Threads + Sync, S: Sink, K: KeyWord + Sync>(
+fn put_answers<R: Threads + Sync, S: Sink, K: KeyWord + Sync, F: LineList<AskLine<K>>>(
     tasks: &Tasks<R>,
     sink: &mut S,
     buffer: &mut Vec<u8>,
     f: u64,
-    lines: &[Numbered<AskLine<K>>],
+    lines: &F,
     answers: &[Option<u64>],
 ) -> Result<(), PutError>
-    ensures ok { OnOk result (IsStreamed (S.taken sink.old) (S.taken sink.new) (buffer.old.items ++ answer_lines K.spelling f 1 (asked_lines (said_of lines.now) answers.now)) buffer.new.items) }
-    ensures err { OnErr result (AppendsPrefix (S.taken sink.old) (S.taken sink.new) (buffer.old.items ++ answer_lines K.spelling f 1 (asked_lines (said_of lines.now) answers.now))) }
+    ensures ok { OnOk result (IsStreamed (S.taken sink.old) (S.taken sink.new) (buffer.old.items ++ answer_lines K.spelling f 1 (asked_lines (said_of (F.items lines.now)) answers.now)) buffer.new.items) }
+    ensures err { OnErr result (AppendsPrefix (S.taken sink.old) (S.taken sink.new) (buffer.old.items ++ answer_lines K.spelling f 1 (asked_lines (said_of (F.items lines.now)) answers.now))) }
     ensures cause { IfErr result (λ error. IsPutCause error (S.faults sink.old) (S.faults sink.new)) }
     ensures lasting { S.faults sink.old ≤ S.faults sink.new }
 {
     let mut block = Vec::new(tasks.alloc);
-    let mut rest = lines;
+    let mut start = 0;
     let mut left = answers;
     let mut before: u64 = 0;
-    while !rest.is_empty() {
+    while start < lines.len() {
         block.clear();
-        let (now, later) = rest.split_at(tasks.round(rest.len()));
-        let given = pair_block(&mut block, now, left)?;
+        let end = start + tasks.round(lines.len() - start);
+        let given = pair_block(&mut block, lines, start, end, left)?;
         tasks.print_lines(buffer, &Answers { file: f }, before, &block)?;
         put_full(sink, buffer)?;
         before += block.len() as u64;
-        rest = later;
+        start = end;
         left = left.split_at(given).1;
     }
     Ok(())

@@ -13,11 +13,14 @@ fn fault_of<T: Drop>(read: Result<T, ScriptError>) -> Result<Option<(u64, Why)>,
     }
 }
 
-// The lines, kept as the readers keep them.
-fn kept<L: CompactLine>(alloc: Global, list: &[Numbered<L>]) -> Result<Lines<L>, Fail> {
+// The lines of these numbers, kept as the readers keep them.
+fn numbered<L: CompactLine>(alloc: Global, said: &[(u64, L)]) -> Result<Lines<L>, Fail> {
     let mut lines = Lines::new(alloc);
-    for line in list {
-        lines.push(*line)?;
+    for (line, what) in said {
+        lines.push(Numbered {
+            line: *line,
+            what: *what,
+        })?;
     }
     Ok(lines)
 }
@@ -202,32 +205,10 @@ fn lines_that_ask_for_too_much(rt: HostRuntime) -> Result<(), Fail> {
         ),
     ];
     for (what, asked, range, circle) in cases {
-        let ups = [
-            Numbered {
-                line: 1,
-                what: what[0],
-            },
-            Numbered {
-                line: 2,
-                what: what[1],
-            },
-            Numbered {
-                line: 3,
-                what: what[2],
-            },
-        ];
-        let file = [
-            Numbered {
-                line: 1,
-                what: asked[0],
-            },
-            Numbered {
-                line: 2,
-                what: asked[1],
-            },
-        ];
-        let ups = kept(alloc, ups.as_slice())?;
-        let asks = [kept(alloc, file.as_slice())?];
+        let said = [(1, what[0]), (2, what[1]), (3, what[2])];
+        let ups = numbered(alloc, said.as_slice())?;
+        let said = [(1, asked[0]), (2, asked[1])];
+        let asks = [numbered(alloc, said.as_slice())?];
         assert_eq!(rt;
             check_ranges(&ups, asks.as_slice()).map(|x| (x.file, x.line)),
             range
@@ -271,29 +252,34 @@ fn lines_are_kept_in_rows(rt: HostRuntime) -> Result<(), Fail> {
         (8, UpLine::Call(Update::Set(widest, u64::MAX))),
         (u64::MAX, UpLine::Hold { file: 64, n: 3 }),
     ];
-    let mut ups = Lines::new(alloc);
-    for (line, what) in said {
-        ups.push(Numbered { line, what })?;
-    }
+    let ups = numbered(alloc, said.as_slice())?;
     assert_eq!(rt; ups.len(), 6);
-    for (i, (line, what)) in said.into_iter().enumerate() {
+    for (i, (line, what)) in said.iter().enumerate() {
         assert!(rt; i < ups.len());
-        assert_eq!(rt; ups.get(i), Numbered { line, what });
-        assert_eq!(rt; ups.what(i), what);
+        assert_eq!(rt;
+            ups.get(i),
+            Numbered {
+                line: *line,
+                what: *what
+            }
+        );
+        assert_eq!(rt; ups.what(i), *what);
     }
-
     let asked = [
         (1, AskLine::Ask(short)),
         (2, AskLine::Wait { n: 3 }),
         (4, AskLine::Ask(wide)),
     ];
-    let mut asks = Lines::new(alloc);
-    for (line, what) in asked {
-        asks.push(Numbered { line, what })?;
-    }
-    for (i, (line, what)) in asked.into_iter().enumerate() {
+    let asks = numbered(alloc, asked.as_slice())?;
+    for (i, (line, what)) in asked.iter().enumerate() {
         assert!(rt; i < asks.len());
-        assert_eq!(rt; asks.get(i), Numbered { line, what });
+        assert_eq!(rt;
+            asks.get(i),
+            Numbered {
+                line: *line,
+                what: *what
+            }
+        );
     }
     Ok(())
 }

@@ -1,5 +1,4 @@
-use Rattle.std.proofs.Common.{◌≡◌, ◌≤◌, ◌++◌, List, drop, length}
-use Rattle.ck_script.specs.declared.line.AskLine.{AskLine}
+use Rattle.std.proofs.Common.{◌≡◌, ◌+◌, ◌≤◌, ◌++◌, drop, length}
 use Rattle.ck_script.specs.Script.{said_of}
 use Rattle.ck_report.specs.Pairing.{asked_lines}
 use Rattle.ck_report.proofs.pairing.pair_block.Given as goal
@@ -8,6 +7,6 @@ use Rattle.ck_report.proofs.pairing.pair_block.Given as goal
 abbrev pub invariant-loop-i : goal.invariant-loop-i
 invariant-loop-i g l = record {
   within : l.next ≤ length l.answers;
-  count : length l.block.items ≤ l.i;
-  paired : (later : List (AskLine g.row.K.Denot)) → l.block.items ++ asked_lines (said_of (drop l.i l.lines) ++ later) (drop l.next l.answers) ≡ asked_lines (said_of l.lines ++ later) l.answers;
+  count : l.start + length l.block.items ≤ l.i;
+  paired : l.block.items ++ asked_lines (said_of (drop l.i (g.F.LineList.items l.lines))) (drop l.next l.answers) ≡ asked_lines (said_of (drop l.start (g.F.LineList.items l.lines))) l.answers;
 }

@@ -10,17 +10,17 @@ pub returns-in_err-put_answers-clause-err : goal.returns-in_err-put_answers-clau
 returns-in_err-put_answers-clause-err g c =
     let file = c.index-asks-i.result in
     let bs = c.index-answers-i.result in
-    let lines = answer_lines g.K.KeyWord.spelling (c.loop-i.i + 1) 1 (asked_lines (said_of file.items) bs.items) in
-    let e = next_file g.K.KeyWord.spelling c.args.asks.now c.args.answers.now c.loop-i.i file bs c.loop-i.buffer.items c.loop-i-test.true c.requires c.index-asks-i.is c.index-answers-i.is in
-    err_always _ _ (streamed_failing _ _ _ _ (c.loop-i.buffer.items ++ lines) _ (streamed_as _ _ _ _ _ c.loop-i.invariant.goes e) (rw (c.deref.ensures.value, c.deref-in-loop-i.ensures.value) at c.in_err-put_answers.ensures.err))
+    let lines = answer_lines g.K.KeyWord.spelling (c.loop-i.i + 1) 1 (asked_lines (said_of (g.F.LineList.items file)) bs.items) in
+    let e = next_file g.K.KeyWord.spelling g.F.LineList.items c.args.asks.now c.args.answers.now c.loop-i.i file bs c.loop-i.buffer.items c.loop-i-test.true c.requires c.index-asks-i.is c.index-answers-i.is in
+    err_always _ _ (streamed_failing _ _ _ _ (c.loop-i.buffer.items ++ lines) _ (streamed_as _ _ _ _ _ c.loop-i.invariant.goes e) (rw c.deref.ensures.value at c.in_err-put_answers.ensures.err))
 
 pub loop-i-preserved : goal.loop-i-preserved
 loop-i-preserved g c =
     let file = c.index-asks-i.result in
     let bs = c.index-answers-i.result in
-    let lines = answer_lines g.K.KeyWord.spelling (c.loop-i.i + 1) 1 (asked_lines (said_of file.items) bs.items) in
-    let e = next_file g.K.KeyWord.spelling c.args.asks.now c.args.answers.now c.loop-i.i file bs c.loop-i.buffer.items c.loop-i-test.true c.requires c.index-asks-i.is c.index-answers-i.is in
+    let lines = answer_lines g.K.KeyWord.spelling (c.loop-i.i + 1) 1 (asked_lines (said_of (g.F.LineList.items file)) bs.items) in
+    let e = next_file g.K.KeyWord.spelling g.F.LineList.items c.args.asks.now c.args.answers.now c.loop-i.i file bs c.loop-i.buffer.items c.loop-i-test.true c.requires c.index-asks-i.is c.index-answers-i.is in
     record {
-      goes = streamed_more _ _ _ _ (c.loop-i.buffer.items ++ lines) _ _ (streamed_as _ _ _ _ _ c.loop-i.invariant.goes e) (rw (c.deref.ensures.value, c.deref-in-loop-i.ensures.value) at c.in_ok-put_answers.ensures.ok);
+      goes = streamed_more _ _ _ _ (c.loop-i.buffer.items ++ lines) _ _ (streamed_as _ _ _ _ _ c.loop-i.invariant.goes e) (rw c.deref.ensures.value at c.in_ok-put_answers.ensures.ok);
       lasting = omega (arith, c.in_ok-put_answers.ensures.lasting);
     }
