@@ -65,17 +65,17 @@ module _ {K A : Type 0} (files : List (Vec (Bounded K) A)) (i : ℕ) (file : Vec
   queries_taken = taken_next (as_queries files) i (map query_of file.items) (omega (arith, length-map files (λ (f : Vec (Bounded K) A). map query_of f.items)))
       (ap (λ (f : Vec (Bounded K) A). map query_of f.items) is ∙ sym (read_mapped (λ (f : Vec (Bounded K) A). map query_of f.items) files i file))
 
-module _ {K A B : Type 0} (all : ℕ) (hs : List HoldLine) (asks : List (Vec (Numbered (AskLine K)) A)) (i : ℕ) (file : Vec (Numbered (AskLine K)) A) (lt : i < length asks) (is : file ≡ get_or asks i file) where
+module _ {K F B : Type 0} (items : F → List (Numbered (AskLine K))) (all : ℕ) (hs : List HoldLine) (asks : List F) (i : ℕ) (file : F) (lt : i < length asks) (is : file ≡ get_or asks i file) where
   -- the queries of one more file
-  pub files_next : (files files' : List (Vec (Bounded K) B)) (bounds : Vec (Bounded K) B) (whole : List (List (Query K))) → files' ≡ files ++ bounds ∷ [] → map query_of bounds.items ≡ bounded all hs (i + 1) 1 (queries 0 (said_of file.items)) →
-      as_queries files ++ bounded_files all hs (i + 1) (map said_of (map (λ f. f.items) (drop i asks))) ≡ whole →
-      as_queries files' ++ bounded_files all hs (i + 1 + 1) (map said_of (map (λ f. f.items) (drop (i + 1) asks))) ≡ whole
+  pub files_next : (files files' : List (Vec (Bounded K) B)) (bounds : Vec (Bounded K) B) (whole : List (List (Query K))) → files' ≡ files ++ bounds ∷ [] → map query_of bounds.items ≡ bounded all hs (i + 1) 1 (queries 0 (said_of (items file))) →
+      as_queries files ++ bounded_files all hs (i + 1) (map said_of (map items (drop i asks))) ≡ whole →
+      as_queries files' ++ bounded_files all hs (i + 1 + 1) (map said_of (map items (drop (i + 1) asks))) ≡ whole
   files_next files files' bounds whole pushed here so_far =
-      ap (λ fs. as_queries fs ++ bounded_files all hs (i + 1 + 1) (map said_of (map (λ f. f.items) (drop (i + 1) asks)))) pushed
-      ∙ (ap (λ qs. qs ++ bounded_files all hs (i + 1 + 1) (map said_of (map (λ f. f.items) (drop (i + 1) asks)))) (map-append (λ (f : Vec (Bounded K) B). map query_of f.items) files (bounds ∷ []))
-      ∙ (append_assoc (as_queries files) (map query_of bounds.items ∷ []) (bounded_files all hs (i + 1 + 1) (map said_of (map (λ f. f.items) (drop (i + 1) asks))))
-      ∙ (ap (λ qs. as_queries files ++ qs ∷ bounded_files all hs (i + 1 + 1) (map said_of (map (λ f. f.items) (drop (i + 1) asks)))) here
-      ∙ (ap (λ l. as_queries files ++ bounded_files all hs (i + 1) (map said_of (map (λ f. f.items) l))) (sym (drop_next asks i file lt is)) ∙ so_far))))
+      ap (λ fs. as_queries fs ++ bounded_files all hs (i + 1 + 1) (map said_of (map items (drop (i + 1) asks)))) pushed
+      ∙ (ap (λ qs. qs ++ bounded_files all hs (i + 1 + 1) (map said_of (map items (drop (i + 1) asks)))) (map-append (λ (f : Vec (Bounded K) B). map query_of f.items) files (bounds ∷ []))
+      ∙ (append_assoc (as_queries files) (map query_of bounds.items ∷ []) (bounded_files all hs (i + 1 + 1) (map said_of (map items (drop (i + 1) asks))))
+      ∙ (ap (λ qs. as_queries files ++ qs ∷ bounded_files all hs (i + 1 + 1) (map said_of (map items (drop (i + 1) asks)))) here
+      ∙ (ap (λ l. as_queries files ++ bounded_files all hs (i + 1) (map said_of (map items l))) (sym (drop_next asks i file lt is)) ∙ so_far))))
 
 -- what is known of a result, where it is an error or not
 pub at_err : {X : Type 0} (r : Result X ℕ) (x : ℕ) (P : X → Type 0) (Q : ℕ → Type 0) → MatchResult r P Q → r ≡ Err x → Q x
@@ -88,10 +88,10 @@ pub queries_count : {K A : Type 0} (files : List (Vec (Bounded K) A)) → length
 queries_count {K} {A} files = length-map files (λ (f : Vec (Bounded K) A). map query_of f.items)
 
 -- the bounds that were read are those of the file's queries
-pub bounds_read : {K : Type 0} (all f : ℕ) (hs : List HoldLine) (held : List Held) (limits limits' : List ℕ) (bounds : List (Bounded K)) (lines lines' : List (Numbered (AskLine K))) → map hold_line held ≡ hs → RiseTo all 0 hs →
+pub bounds_read : {K : Type 0} (all f : ℕ) (hs : List HoldLine) (held : List Held) (limits limits' : List ℕ) (bounds : List (Bounded K)) (lines : List (Numbered (AskLine K))) → map hold_line held ≡ hs → RiseTo all 0 hs →
     ((most m : ℕ) → RiseTo most m (map hold_line held) → AreLimits most f (map hold_line held) limits) → limits' ≡ limits →
-    ((g : ℕ) (gs : List HoldLine) → AreLimits all g gs limits' → map query_of bounds ≡ bounded all gs g 1 (queries 0 (said_of lines'))) → lines' ≡ lines →
+    ((g : ℕ) (gs : List HoldLine) → AreLimits all g gs limits' → map query_of bounds ≡ bounded all gs g 1 (queries 0 (said_of lines))) →
     map query_of bounds ≡ bounded all hs f 1 (queries 0 (said_of lines))
-bounds_read all f hs held limits limits' bounds lines lines' same rise limited lim_is bounded_by line_is =
+bounds_read all f hs held limits limits' bounds lines same rise limited lim_is bounded_by =
     let here : AreLimits all f hs limits = subst (λ l. AreLimits all f l limits) same (limited all 0 (subst (λ l. RiseTo all 0 l) (sym same) rise)) in
-    bounded_by f hs (subst (λ l. AreLimits all f hs l) (sym lim_is) here) ∙ ap (λ l. bounded all hs f 1 (queries 0 (said_of l))) line_is
+    bounded_by f hs (subst (λ l. AreLimits all f hs l) (sym lim_is) here)

@@ -1,5 +1,5 @@
 -- Which place each query is held to, by the `hold` lines in order.
-use Rattle.std.proofs.Common.{◌≡◌, ◌≢◌, ℕ, zero, suc, ◌+◌, ◌-◌, ◌<◌, ◌≤◌, nat_le, ◌==◌, ◌&&◌, Bool, true, false, cond, min, List, [], ◌∷◌, ◌++◌, length, get_or, drop, refl, ap, sym, ◌∙◌, add-one, arith, append_assoc, append-nil, length-append, map, max, subst}
+use Rattle.std.proofs.Common.{◌≡◌, ◌≢◌, ℕ, zero, suc, ◌+◌, ◌-◌, ◌<◌, ◌≤◌, nat_le, ◌==◌, ◌&&◌, Bool, true, false, cond, min, List, [], ◌∷◌, ◌++◌, length, get_or, drop, refl, ap, sym, ◌∙◌, add-one, arith, append_assoc, append-nil, length-append, map, max, subst, Some}
 use Rattle.std.specs.List.{slice_get, repeat}
 use Rattle.std.specs.Option.{unwrap_or}
 use Rattle.std.proofs.Math.Seq.{drop-cons}
@@ -14,6 +14,7 @@ use Rattle.ck_script.specs.Script.{HoldLine, greatest, holds, updates, said_of, 
 use Rattle.ck_history.specs.Legal.{Query}
 use Rattle.ck_judge.specs.declared.bounds.Held.{Held}
 use Rattle.ck_judge.specs.declared.bounds.Bounded.{Bounded}
+use Rattle.ck_script.proofs.Standing.{said_there}
 use Rattle.ck_judge.specs.Bounds.{RiseTo, hold_line, query_of}
 
 -- the next element, and the others
@@ -85,19 +86,19 @@ appended xs ys x count e lt =
     let left : count - length xs ≡ suc (count - length ys) = omega (arith, longer) in
     ap (λ l. l ++ repeat (count - length ys) (x ∷ [])) e ∙ (append_assoc xs (x ∷ []) (repeat (count - length ys) (x ∷ [])) ∙ sym (ap (λ k. xs ++ repeat k (x ∷ [])) left))
 
-module _ {C : Type 0} (ups : List (Numbered (UpLine C))) (i : ℕ) (line : Numbered (UpLine C)) (lt : i < length ups) (is : line ≡ get_or ups i line) (held held' : List Held) (after after' : ℕ) (whole : List HoldLine) (so_far : map hold_line held ++ holds after (said_of (drop i ups)) ≡ whole) where
-  next_line : (what : UpLine C) → line.what ≡ what → holds after (said_of (drop i ups)) ≡ holds after (what ∷ said_of (drop (i + 1) ups))
-  next_line what says = ap (λ ls. holds after (said_of ls)) (drop_next ups i line lt is) ∙ ap (λ w. holds after (w ∷ said_of (drop (i + 1) ups))) says
+module _ {C : Type 0} (ups : List (Numbered (UpLine C))) (i : ℕ) (said : UpLine C) (is : slice_get (said_of ups) i ≡ Some said) (held held' : List Held) (after after' : ℕ) (whole : List HoldLine) (so_far : map hold_line held ++ holds after (said_of (drop i ups)) ≡ whole) where
+  next_line : (what : UpLine C) → said ≡ what → holds after (said_of (drop i ups)) ≡ holds after (what ∷ said_of (drop (i + 1) ups))
+  next_line what says = ap (holds after) (said_there ups i said is ∙ ap (λ w. w ∷ said_of (drop (i + 1) ups)) says)
 
   -- an update
-  pub holds_call : (u : C) → line.what ≡ Call u → held' ≡ held → after' ≡ after + 1 → map hold_line held' ++ holds after' (said_of (drop (i + 1) ups)) ≡ whole
+  pub holds_call : (u : C) → said ≡ Call u → held' ≡ held → after' ≡ after + 1 → map hold_line held' ++ holds after' (said_of (drop (i + 1) ups)) ≡ whole
   holds_call u says same more =
       ap (λ hs. map hold_line hs ++ holds after' (said_of (drop (i + 1) ups))) same
       ∙ (ap (λ n. map hold_line held ++ holds n (said_of (drop (i + 1) ups))) more
       ∙ (ap (λ hs. map hold_line held ++ hs) (sym (next_line (Call u) says)) ∙ so_far))
 
   -- a `hold` line
-  pub holds_hold : (file count : ℕ) → line.what ≡ Hold file count → held' ≡ held ++ record { file = file; count = count; after = after } ∷ [] → after' ≡ after → map hold_line held' ++ holds after' (said_of (drop (i + 1) ups)) ≡ whole
+  pub holds_hold : (file count : ℕ) → said ≡ Hold file count → held' ≡ held ++ record { file = file; count = count; after = after } ∷ [] → after' ≡ after → map hold_line held' ++ holds after' (said_of (drop (i + 1) ups)) ≡ whole
   holds_hold file count says pushed same =
       ap (λ hs. map hold_line hs ++ holds after' (said_of (drop (i + 1) ups))) pushed
       ∙ (ap (λ n. map hold_line (held ++ record { file = file; count = count; after = after } ∷ []) ++ holds n (said_of (drop (i + 1) ups))) same
@@ -105,19 +106,19 @@ module _ {C : Type 0} (ups : List (Numbered (UpLine C))) (i : ℕ) (line : Numbe
       ∙ (append_assoc (map hold_line held) (record { file = file; count = count; after = after } ∷ []) (holds after (said_of (drop (i + 1) ups)))
       ∙ (ap (λ hs. map hold_line held ++ hs) (sym (next_line (Hold file count) says)) ∙ so_far))))
 
-module _ {K : Type 0} (lines : List (Numbered (AskLine K))) (i : ℕ) (line : Numbered (AskLine K)) (lt : i < length lines) (is : line ≡ get_or lines i line) (all f : ℕ) (hs : List HoldLine) (bounds bounds' : List (Bounded K)) (least least' : ℕ) (whole : List (Query K)) (so_far : map query_of bounds ++ bounded all hs f (length bounds + 1) (queries least (said_of (drop i lines))) ≡ whole) where
-  next_query : (what : AskLine K) → line.what ≡ what → bounded all hs f (length bounds + 1) (queries least (said_of (drop i lines))) ≡ bounded all hs f (length bounds + 1) (queries least (what ∷ said_of (drop (i + 1) lines)))
-  next_query what says = ap (λ ls. bounded all hs f (length bounds + 1) (queries least (said_of ls))) (drop_next lines i line lt is) ∙ ap (λ w. bounded all hs f (length bounds + 1) (queries least (w ∷ said_of (drop (i + 1) lines)))) says
+module _ {K : Type 0} (lines : List (Numbered (AskLine K))) (i : ℕ) (said : AskLine K) (is : slice_get (said_of lines) i ≡ Some said) (all f : ℕ) (hs : List HoldLine) (bounds bounds' : List (Bounded K)) (least least' : ℕ) (whole : List (Query K)) (so_far : map query_of bounds ++ bounded all hs f (length bounds + 1) (queries least (said_of (drop i lines))) ≡ whole) where
+  next_query : (what : AskLine K) → said ≡ what → bounded all hs f (length bounds + 1) (queries least (said_of (drop i lines))) ≡ bounded all hs f (length bounds + 1) (queries least (what ∷ said_of (drop (i + 1) lines)))
+  next_query what says = ap (λ ws. bounded all hs f (length bounds + 1) (queries least ws)) (said_there lines i said is ∙ ap (λ w. w ∷ said_of (drop (i + 1) lines)) says)
 
   -- a `wait` line
-  pub bounds_wait : (n : ℕ) → line.what ≡ Wait n → bounds' ≡ bounds → least' ≡ max least n → map query_of bounds' ++ bounded all hs f (length bounds' + 1) (queries least' (said_of (drop (i + 1) lines))) ≡ whole
+  pub bounds_wait : (n : ℕ) → said ≡ Wait n → bounds' ≡ bounds → least' ≡ max least n → map query_of bounds' ++ bounded all hs f (length bounds' + 1) (queries least' (said_of (drop (i + 1) lines))) ≡ whole
   bounds_wait n says same more =
       ap (λ bs. map query_of bs ++ bounded all hs f (length bs + 1) (queries least' (said_of (drop (i + 1) lines)))) same
       ∙ (ap (λ m. map query_of bounds ++ bounded all hs f (length bounds + 1) (queries m (said_of (drop (i + 1) lines)))) more
       ∙ (ap (λ qs. map query_of bounds ++ qs) (sym (next_query (Wait n) says)) ∙ so_far))
 
   -- a query
-  pub bounds_ask : (k : K) (g : ℕ) → line.what ≡ Ask k → bounds' ≡ bounds ++ record { key = k; least = least; greatest = g } ∷ [] → least' ≡ least → greatest all f (length bounds + 1) hs ≡ g → map query_of bounds' ++ bounded all hs f (length bounds' + 1) (queries least' (said_of (drop (i + 1) lines))) ≡ whole
+  pub bounds_ask : (k : K) (g : ℕ) → said ≡ Ask k → bounds' ≡ bounds ++ record { key = k; least = least; greatest = g } ∷ [] → least' ≡ least → greatest all f (length bounds + 1) hs ≡ g → map query_of bounds' ++ bounded all hs f (length bounds' + 1) (queries least' (said_of (drop (i + 1) lines))) ≡ whole
   bounds_ask k g says pushed same high =
       let b : Bounded K = record { key = k; least = least; greatest = g } in
       let rest : ℕ → List (Query K) = λ n. bounded all hs f (n + 1) (queries least (said_of (drop (i + 1) lines))) in

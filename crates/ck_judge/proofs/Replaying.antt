@@ -1,5 +1,6 @@
 -- One more update, of those that are left.
 use Rattle.std.proofs.Common.{◌≡◌, ℕ, ◌+◌, ◌<◌, List, [], ◌∷◌, ◌++◌, length, drop, get_or, refl, ap, sym, ◌∙◌, append_assoc, Option, Some}
+use Rattle.std.specs.List.{slice_get}
 use Rattle.std.specs.declared.cmp.Ordering.{Ordering}
 use Rattle.ck_history.specs.declared.update.Update.{Update}
 use Rattle.ck_history.specs.declared.update.Update.TheVariants.{Set, Put, Del, Tidy}
@@ -9,6 +10,7 @@ use Rattle.ck_script.specs.declared.line.Numbered.{Numbered}
 use Rattle.ck_script.specs.declared.line.UpLine.{UpLine}
 use Rattle.ck_script.specs.declared.line.UpLine.TheVariants.{Call, Hold}
 use Rattle.ck_script.specs.Script.{said_of, updates}
+use Rattle.ck_script.proofs.Standing.{said_there}
 use Rattle.ck_judge.specs.declared.changes.Change.{Change}
 use Rattle.ck_judge.specs.Changes.{update_key, changes_at, touched_by, changes_from}
 use Rattle.ck_judge.proofs.Holding.{drop_next}
@@ -40,16 +42,16 @@ module _ {K : Type 0} (cmp : K → K → Ordering) (most : ℕ) (us : List (Upda
       ∙ (append_assoc cs (touched_by cmp most m place u) (changes_from cmp most (step cmp most m u).0 (place + 1) (drop (i + 1) us))
       ∙ (sym (ap (λ l. cs ++ changes_from cmp most m place l) (drop_next us i u lt is)) ∙ so_far)))
 
-module _ {C : Type 0} (ups : List (Numbered (UpLine C))) (i : ℕ) (line : Numbered (UpLine C)) (lt : i < length ups) (is : line ≡ get_or ups i line) (us us' whole : List C) (so_far : us ++ updates (said_of (drop i ups)) ≡ whole) where
-  line_next : (what : UpLine C) → line.what ≡ what → updates (said_of (drop i ups)) ≡ updates (what ∷ said_of (drop (i + 1) ups))
-  line_next what says = ap (λ ls. updates (said_of ls)) (drop_next ups i line lt is) ∙ ap (λ w. updates (w ∷ said_of (drop (i + 1) ups))) says
+module _ {C : Type 0} (ups : List (Numbered (UpLine C))) (i : ℕ) (said : UpLine C) (is : slice_get (said_of ups) i ≡ Some said) (us us' whole : List C) (so_far : us ++ updates (said_of (drop i ups)) ≡ whole) where
+  line_next : (what : UpLine C) → said ≡ what → updates (said_of (drop i ups)) ≡ updates (what ∷ said_of (drop (i + 1) ups))
+  line_next what says = ap updates (said_there ups i said is ∙ ap (λ w. w ∷ said_of (drop (i + 1) ups)) says)
 
-  pub listed_call : (u : C) → line.what ≡ Call u → us' ≡ us ++ u ∷ [] → us' ++ updates (said_of (drop (i + 1) ups)) ≡ whole
+  pub listed_call : (u : C) → said ≡ Call u → us' ≡ us ++ u ∷ [] → us' ++ updates (said_of (drop (i + 1) ups)) ≡ whole
   listed_call u says pushed =
       ap (λ l. l ++ updates (said_of (drop (i + 1) ups))) pushed
       ∙ (append_assoc us (u ∷ []) (updates (said_of (drop (i + 1) ups)))
       ∙ (ap (λ l. us ++ l) (sym (line_next (Call u) says)) ∙ so_far))
 
-  pub listed_hold : (file count : ℕ) → line.what ≡ Hold file count → us' ≡ us → us' ++ updates (said_of (drop (i + 1) ups)) ≡ whole
+  pub listed_hold : (file count : ℕ) → said ≡ Hold file count → us' ≡ us → us' ++ updates (said_of (drop (i + 1) ups)) ≡ whole
   listed_hold file count says same =
       ap (λ l. l ++ updates (said_of (drop (i + 1) ups))) same ∙ (ap (λ l. us ++ l) (sym (line_next (Hold file count) says)) ∙ so_far)

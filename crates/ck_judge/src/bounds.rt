@@ -6,7 +6,7 @@ ghost use Rattle.std.specs.Option.{unwrap_or};
 ghost use Rattle.ck_script.specs.Script.{said_of, updates, holds, queries, bounded, HoldLine, greatest};
 ghost use Rattle.ck_judge.specs.Bounds.{query_of, hold_line, AreLimits, RiseTo};
 
-use ck_script::{AskLine, Numbered, UpLine};
+use ck_script::{AskLine, LineList, UpLine};
 use std::alloc::{AllocError, Global};
 
 /// A query, and the least and the greatest place that its answer may have.
@@ -26,13 +26,16 @@ pub struct Held {
 }
 
 /// The `hold` lines of an update file.
-pub fn read_holds<C>(alloc: Global, ups: &[Numbered<UpLine<C>>]) -> Result<Vec<Held>, AllocError>
-    ensures { IfOk result (λ held. map hold_line held.items ≡ holds 0 (said_of ups.now)) }
+pub fn read_holds<C: Drop, U: LineList<UpLine<C>>>(
+    alloc: Global,
+    ups: &U,
+) -> Result<Vec<Held>, AllocError>
+    ensures { IfOk result (λ held. map hold_line held.items ≡ holds 0 (said_of (U.items ups.now))) }
 {
     let mut held = Vec::new(alloc);
     let mut after: u64 = 0;
-    for line in ups {
-        match line.what {
+    for i in 0..ups.len() {
+        match ups.what(i) {
             UpLine::Call(_) => after += 1,
             UpLine::Hold { file, n } => held.push(Held {
                 file,
@@ -78,18 +81,18 @@ fn extend(limits: &mut Vec<u64>, count: u64, limit: u64) -> Result<(), AllocErro
 }
 
 /// The queries of a file, whose first answers have these greatest places, and whose later ones any place up to `all`.
-pub fn read_bounds<K: Copy>(
+pub fn read_bounds<K: Copy, F: LineList<AskLine<K>>>(
     alloc: Global,
-    lines: &[Numbered<AskLine<K>>],
+    lines: &F,
     limits: &[u64],
     all: u64,
 ) -> Result<Vec<Bounded<K>>, AllocError>
-    ensures { IfOk result (λ bounds. (f : ℕ) (hs : List HoldLine) → AreLimits all f hs limits.now → map query_of bounds.items ≡ bounded all hs f 1 (queries 0 (said_of lines.now))) }
+    ensures { IfOk result (λ bounds. (f : ℕ) (hs : List HoldLine) → AreLimits all f hs limits.now → map query_of bounds.items ≡ bounded all hs f 1 (queries 0 (said_of (F.items lines.now)))) }
 {
     let mut bounds = Vec::new(alloc);
     let mut least: u64 = 0;
-    for line in lines {
-        match line.what {
+    for i in 0..lines.len() {
+        match lines.what(i) {
             AskLine::Ask(key) => {
                 let greatest = limit_at(limits, bounds.len(), all);
                 bounds.push(Bounded {

@@ -13,7 +13,7 @@ use crate::places::place_file;
 use crate::verdict::Places;
 use ck_history::Update;
 use ck_report::Asked;
-use ck_script::{AskLine, Numbered, UpLine};
+use ck_script::{AskLine, LineList, UpLine};
 use std::alloc::{AllocError, Global};
 
 /// An answer that is wrong: the number of its file and its own, both from 1.
@@ -25,20 +25,20 @@ pub struct WrongAnswer {
 
 /// The queries of each query file with their bounds, where there are `all` updates. It makes one pass over the `hold`
 /// lines for each query file.
-pub fn read_files<K: Copy>(
+pub fn read_files<K: Copy, U: LineList<UpLine<Update<K>>>, F: LineList<AskLine<K>>>(
     alloc: Global,
-    ups: &[Numbered<UpLine<Update<K>>>],
-    asks: &[Vec<Numbered<AskLine<K>>>],
+    ups: &U,
+    asks: &[F],
     all: u64,
 ) -> Result<Vec<Vec<Bounded<K>>>, AllocError>
-    requires { all ≡ length (updates (said_of ups.now)) }
-    ensures { IfOk result (λ files. as_queries files.items ≡ (script_of (said_of ups.now) (map said_of (map (λ file. file.items) asks.now))).files) }
+    requires { all ≡ length (updates (said_of (U.items ups.now))) }
+    ensures { IfOk result (λ files. as_queries files.items ≡ (script_of (said_of (U.items ups.now)) (map said_of (map F.items asks.now))).files) }
 {
     let held = read_holds(alloc, ups)?;
     let mut files = Vec::new(alloc);
     for (i, lines) in asks.iter().enumerate() {
         let limits = read_limits(alloc, &held, i as u64 + 1)?;
-        let bounds = read_bounds(alloc, lines.as_slice(), &limits, all)?;
+        let bounds = read_bounds(alloc, lines, &limits, all)?;
         files.push(bounds)?;
     }
     Ok(files)

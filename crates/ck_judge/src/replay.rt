@@ -8,7 +8,7 @@ ghost use Rattle.ck_judge.specs.Changes.{update_key, changes_at, changes_from};
 
 use crate::changes::Change;
 use ck_history::{Reply, Update};
-use ck_script::{Numbered, UpLine};
+use ck_script::{LineList, UpLine};
 use std::alloc::{AllocError, Global};
 use std::collections::BTreeMap;
 
@@ -24,15 +24,15 @@ pub struct Replayed<K> {
 }
 
 /// The updates of an update file, in order.
-pub fn list_updates<C: Copy>(
+pub fn list_updates<C: Copy, U: LineList<UpLine<C>>>(
     alloc: Global,
-    ups: &[Numbered<UpLine<C>>],
+    ups: &U,
 ) -> Result<Vec<C>, AllocError>
-    ensures { IfOk result (λ us. us.items ≡ updates (said_of ups.now)) }
+    ensures { IfOk result (λ us. us.items ≡ updates (said_of (U.items ups.now))) }
 {
     let mut us = Vec::new(alloc);
-    for line in ups {
-        match line.what {
+    for i in 0..ups.len() {
+        match ups.what(i) {
             UpLine::Call(u) => us.push(u)?,
             UpLine::Hold { .. } => {}
         }

@@ -1,7 +1,7 @@
 use crate::judge;
 use ck_history::Key;
 use ck_report::read_map_report;
-use ck_script::{Numbered, UpLine, check_ranges, read_queries, read_updates};
+use ck_script::{LineList, Lines, Numbered, UpLine, check_ranges, read_queries, read_updates};
 use std::alloc::{AllocError, Global};
 use std::test::Fail;
 
@@ -14,15 +14,17 @@ pub(crate) fn verdict_text(
     queries: &[u8],
     report: &[u8],
 ) -> Result<String, Fail> {
-    let mut ups = Vec::new(alloc);
-    for line in read_updates::<Key>(alloc, updates)?.iter() {
+    let read = read_updates::<Key>(alloc, updates)?;
+    let mut ups = Lines::new(alloc);
+    for i in 0..read.len() {
+        let line = read.get(i);
         if held == Some(line.line) {
             ups.push(Numbered {
                 line: line.line,
                 what: UpLine::Hold { file: 1, n: 1 },
             })?;
         }
-        ups.push(*line)?;
+        ups.push(line)?;
     }
     let mut asks = Vec::new(alloc);
     asks.push(read_queries::<Key>(alloc, queries)?)?;

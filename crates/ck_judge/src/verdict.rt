@@ -16,7 +16,7 @@ use crate::history::History;
 use crate::replay::{Replayed, list_updates, replay};
 use ck_history::Update;
 use ck_report::MapReport;
-use ck_script::{AskLine, Numbered, UpLine};
+use ck_script::{AskLine, LineList, UpLine};
 use std::alloc::{AllocError, Global};
 use std::marker::Model;
 
@@ -55,17 +55,17 @@ pub enum Verdict {
 /// replies and table, and the answers of each file have places, by the definition of legal answers. `most` is how many pairs the map may have. For n updates
 /// and m answers it takes O((n + m) log (n + m)) steps, one pass over the `hold` lines for each query file, and O(n + m)
 /// memory.
-pub fn judge<K: Ord + Copy>(
+pub fn judge<K: Ord + Copy, U: LineList<UpLine<Update<K>>>, F: LineList<AskLine<K>>>(
     alloc: Global,
-    ups: &[Numbered<UpLine<Update<K>>>],
-    asks: &[Vec<Numbered<AskLine<K>>>],
+    ups: &U,
+    asks: &[F],
     report: &MapReport<K>,
     most: u64,
 ) -> Result<Verdict, AllocError>
-    requires ranges { range_fault ups.now (map (λ file. file.items) asks.now) ≡ None }
+    requires ranges { range_fault (U.items ups.now) (map F.items asks.now) ≡ None }
     requires named { AreNamed 1 (parts_of report.now).files }
-    ensures verdict { IfOk result (IsVerdict K.cmp most (script_of (said_of ups.now) (map said_of (map (λ file. file.items) asks.now))) (parts_of report.now)) }
-    ensures legal { IfOk result (λ verdict. IsTrue (is_legal verdict) ↔ IsLegalReport K.cmp most (script_of (said_of ups.now) (map said_of (map (λ file. file.items) asks.now))) (parts_of report.now)) }
+    ensures verdict { IfOk result (IsVerdict K.cmp most (script_of (said_of (U.items ups.now)) (map said_of (map F.items asks.now))) (parts_of report.now)) }
+    ensures legal { IfOk result (λ verdict. IsTrue (is_legal verdict) ↔ IsLegalReport K.cmp most (script_of (said_of (U.items ups.now)) (map said_of (map F.items asks.now))) (parts_of report.now)) }
 {
     let updates = list_updates(alloc, ups)?;
     let files = read_files(alloc, ups, asks, updates.len() as u64)?;

@@ -5,13 +5,13 @@ use Rattle.ck_judge.proofs.Holding.{bounds_wait, bounds_ask, bounds_end}
 use Rattle.ck_judge.proofs.bounds.read_bounds.Goals as goal
 use Rattle.ck_judge.proofs.bounds.read_bounds.Goals.{in-Ask+in_ok-push-in-Ask, in-Wait}
 
-pub loop-line-preserved : goal.loop-line-preserved
-loop-line-preserved g c = λ f hs limited. elim c.match-line.branch [
+pub loop-i-preserved : goal.loop-i-preserved
+loop-i-preserved g c = λ f hs limited. elim c.match-what.branch [
   | in-Ask+in_ok-push-in-Ask w ↦
-      bounds_ask c.args.lines.now c.loop-line.line-index c.line-item.result c.loop-line-test.true c.line-item.is c.args.all f hs c.loop-line.bounds.items c.match-line.bounds.items c.loop-line.least c.match-line.least _ (c.loop-line.invariant f hs limited) _ _ w.in-Ask.is (ap (λ v. v.items) w.bounds-is ∙ w.in_ok-push-in-Ask.ensures.items) w.least-is (limited (length c.loop-line.bounds.items) ∙ (ap (λ n. unwrap_or (slice_get c.args.limits.now n) c.args.all) (omega (arith, w.len.ensures, c.loop-line.bounds.ok)) ∙ sym w.limit_at-greatest.ensures))
+      bounds_ask (g.F.LineList.items c.args.lines.now) c.loop-i.i c.what.result c.what.ensures c.args.all f hs c.loop-i.bounds.items c.match-what.bounds.items c.loop-i.least c.match-what.least _ (c.loop-i.invariant f hs limited) _ _ w.in-Ask.is (ap (λ v. v.items) w.bounds-is ∙ w.in_ok-push-in-Ask.ensures.items) w.least-is (limited (length c.loop-i.bounds.items) ∙ (ap (λ n. unwrap_or (slice_get c.args.limits.now n) c.args.all) (omega (arith, w.len.ensures, c.loop-i.bounds.ok)) ∙ sym w.limit_at-greatest.ensures))
   | in-Wait w ↦
-      bounds_wait c.args.lines.now c.loop-line.line-index c.line-item.result c.loop-line-test.true c.line-item.is c.args.all f hs c.loop-line.bounds.items c.match-line.bounds.items c.loop-line.least c.match-line.least _ (c.loop-line.invariant f hs limited) _ w.in-Wait.is (ap (λ v. v.items) w.bounds-is) (w.least-is ∙ w.max-least.ensures)
+      bounds_wait (g.F.LineList.items c.args.lines.now) c.loop-i.i c.what.result c.what.ensures c.args.all f hs c.loop-i.bounds.items c.match-what.bounds.items c.loop-i.least c.match-what.least _ (c.loop-i.invariant f hs limited) _ w.in-Wait.is (ap (λ v. v.items) w.bounds-is) (w.least-is ∙ w.max-least.ensures)
 ]
 
 pub returns : goal.returns
-returns g c = λ f hs limited. bounds_end c.args.lines.now c.loop-line.line-index c.args.all f hs c.loop-line.bounds.items c.loop-line.least _ (omega (arith, c.loop-line-test.false)) (c.loop-line.invariant f hs limited)
+returns g c = λ f hs limited. bounds_end (g.F.LineList.items c.args.lines.now) c.loop-i.i c.args.all f hs c.loop-i.bounds.items c.loop-i.least _ (omega (arith, c.loop-i-test.false)) (c.loop-i.invariant f hs limited)

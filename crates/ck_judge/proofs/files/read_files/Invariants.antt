@@ -5,4 +5,4 @@ use Rattle.ck_judge.proofs.files.read_files.Given as goal
 
 -- the files so far, and those that are left
 abbrev pub invariant-loop-i : goal.invariant-loop-i
-invariant-loop-i g l = as_queries l.files.items ++ bounded_files l.all (holds 0 (said_of l.ups)) (l.i + 1) (map said_of (map (λ file. file.items) (drop l.i l.asks))) ≡ bounded_files l.all (holds 0 (said_of l.ups)) 1 (map said_of (map (λ file. file.items) l.asks))
+invariant-loop-i g l = as_queries l.files.items ++ bounded_files l.all (holds 0 (said_of (g.U.LineList.items l.ups))) (l.i + 1) (map said_of (map g.F.LineList.items (drop l.i l.asks))) ≡ bounded_files l.all (holds 0 (said_of (g.U.LineList.items l.ups))) 1 (map said_of (map g.F.LineList.items l.asks))
