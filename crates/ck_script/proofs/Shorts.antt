@@ -1,5 +1,5 @@
 -- Lines that are beyond: `hold` lines for one query file after another, and files in which no task waits.
-use Rattle.std.proofs.Common.{◌≡◌, ℕ, zero, suc, ◌+◌, ◌<◌, ◌==◌, nat_lt, nat_le, inl, inr, Bool, true, false, ◌&&◌, ◌||◌, take, List, [], ◌∷◌, length, map, refl, ap, arith, ◌∙◌, sym, Option, Some, None}
+use Rattle.std.proofs.Common.{◌≡◌, ℕ, zero, suc, ◌+◌, ◌==◌, nat_lt, nat_le, inl, inr, Bool, true, false, ◌&&◌, ◌||◌, take, List, [], ◌∷◌, length, map, refl, ap, arith, ◌∙◌, sym, Option, Some, None}
 use Rattle.std.specs.List.{slice_get, find, list_any, position_or_len}
 use Rattle.std.specs.Option.{option_map, option_map_or, option_or}
 use Rattle.std.proofs.lemmas.Bool.{cond-false, ne_eqb}
