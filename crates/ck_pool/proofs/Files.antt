@@ -1,9 +1,9 @@
 -- Files that are run, as plain data.
-use Rattle.std.proofs.Common.{◌≡◌, ◌≢◌, ℕ, zero, suc, ◌+◌, ◌<◌, ◌==◌, cond, List, [], ◌∷◌, ◌++◌, length, take, drop, get_or, Option, Some, None, Vec, Result, Ok, IfOk, All, ne_eqb, add-one, refl, sym, ap, subst, ◌∙◌, append_assoc, arith}
+use Rattle.std.proofs.Common.{◌≡◌, ◌≢◌, ℕ, zero, suc, ◌+◌, ◌<◌, ◌==◌, cond, List, [], ◌∷◌, ◌++◌, length, take, drop, get_or, Option, Some, None, Result, Ok, IfOk, All, ne_eqb, add-one, refl, sym, ap, subst, ◌∙◌, append_assoc, arith}
 use Rattle.std.specs.Prelude.{slice_get}
-use Rattle.std.specs.declared.alloc.Global.{Global}
 use Rattle.ck_script.specs.declared.line.Numbered.{Numbered}
 use Rattle.ck_script.specs.declared.line.AskLine.{AskLine}
+use Rattle.ck_script.specs.Script.{said_of}
 use Rattle.ck_history.specs.declared.event.ReaderEvent.{ReaderEvent}
 use Rattle.ck_pool.specs.Limits.{call_bound}
 use Rattle.ck_pool.specs.declared.query_run.QueryRun.{QueryRun}
@@ -13,7 +13,7 @@ use Rattle.ck_pool.proofs.Taking.{times_append}
 use Rattle.ck_pool.specs.Meaning.{EyeMeaning}
 use Rattle.ck_pool.specs.Served.{IsQueryFileServed, AreServed}
 use Rattle.ck_pool.specs.Working.{IsHalted, RanTo, IsWaitLine, AreFew, IsFileRun, IsQueryRun, runs_of}
-use Rattle.ck_pool.proofs.Running.{get_lt, get_is, some_same, take_one_more}
+use Rattle.ck_pool.proofs.Running.{get_lt, get_is, some_same, map_get, take_one_more}
 
 module _ {A B : Type 0} where
   none_asked : (lines : List (Numbered (AskLine A))) (bs : List B) → bs ≡ [] → QueriesRan (take 0 lines) [] bs
@@ -30,18 +30,21 @@ module _ {A B : Type 0} where
   pub waits_at : (lines : List (Numbered (AskLine A))) (i : ℕ) (ds : List (ReaderEvent A B)) (bs : List B) → IsHalted lines i ds bs → IsWaitLine lines i
   waits_at lines i ds bs s = record { n = s.n; line = s.line; here = s.here; waits = s.waits }
 
-module _ {E A B : Type 0} (meaning : EyeMeaning E A B) (eyes : List E) (asks : List (Vec (Numbered (AskLine A)) Global)) where
-  pub run_is : (file : ℕ) (r : QueryRun E B) (given : E) (lines : Vec (Numbered (AskLine A)) Global) (ls : List (Numbered (AskLine A))) → r.file ≡ file → slice_get eyes file ≡ Some given → slice_get asks file ≡ Some lines → ls ≡ lines.items
-      → IsFileRun meaning given ls r → IsQueryRun meaning eyes asks r
-  run_is file r given lines ls same eye of is run = record {
+pub said_at : {L : Type 0} (lines : List (Numbered L)) (i : ℕ) (line : Numbered L) (what : L) → slice_get lines i ≡ Some line → slice_get (said_of lines) i ≡ Some what → what ≡ line.what
+said_at lines i line what here said = some_same what line.what (sym said ∙ map_get (λ l. l.what) lines i line here)
+
+module _ {E A B : Type 0} (meaning : EyeMeaning E A B) (eyes : List E) (asks : List (List (Numbered (AskLine A)))) where
+  pub run_is : (file : ℕ) (r : QueryRun E B) (given : E) (lines : List (Numbered (AskLine A))) → r.file ≡ file → slice_get eyes file ≡ Some given → slice_get asks file ≡ Some lines
+      → IsFileRun meaning given lines r → IsQueryRun meaning eyes asks r
+  run_is file r given lines same eye of run = record {
     given = given;
     lines = lines;
     eye = ap (λ (k : ℕ). slice_get eyes k) same ∙ eye;
     file = ap (λ (k : ℕ). slice_get asks k) same ∙ of;
-    run = subst (λ (x : List (Numbered (AskLine A))). IsFileRun meaning given x r) is run;
+    run = run;
   }
 
-  pub runs_again : (r r' : QueryRun E B) (i : ℕ) (ls : List (Numbered (AskLine A))) (h : IsQueryRun meaning eyes asks r) → ls ≡ h.lines.items → r.waits_at ≡ Some i → r'.file ≡ r.file → meaning.ready r'.eye → meaning.number r'.eye ≡ meaning.number r.eye → AreFew (meaning.calls r'.eye) r'.waits_at
+  pub runs_again : (r r' : QueryRun E B) (i : ℕ) (ls : List (Numbered (AskLine A))) (h : IsQueryRun meaning eyes asks r) → ls ≡ h.lines → r.waits_at ≡ Some i → r'.file ≡ r.file → meaning.ready r'.eye → meaning.number r'.eye ≡ meaning.number r.eye → AreFew (meaning.calls r'.eye) r'.waits_at
       → (ds : List (ReaderEvent A B)) → meaning.done r'.eye ≡ meaning.done r.eye ++ ds → ((before : List (ReaderEvent A B)) → IsHalted ls i before r.answers.items → RanTo ls r'.waits_at (before ++ ds) r'.answers.items)
       → IsQueryRun meaning eyes asks r'
   runs_again r r' i ls h is at same good number_same may ds grown ran = record {
@@ -56,21 +59,21 @@ module _ {E A B : Type 0} (meaning : EyeMeaning E A B) (eyes : List E) (asks : L
       events = h.run.events ++ ds;
       grown = grown ∙ (ap (λ (x : List (ReaderEvent A B)). x ++ ds) h.run.grown ∙ append_assoc (meaning.done h.given) h.run.events ds);
       ran =
-          let stands : IsHalted h.lines.items i h.run.events r.answers.items = stands_at h.lines.items r.waits_at i h.run.events r.answers.items at h.run.ran in
+          let stands : IsHalted h.lines i h.run.events r.answers.items = stands_at h.lines r.waits_at i h.run.events r.answers.items at h.run.ran in
           let here : IsHalted ls i h.run.events r.answers.items = subst (λ (x : List (Numbered (AskLine A))). IsHalted x i h.run.events r.answers.items) (sym is) stands in
           subst (λ (x : List (Numbered (AskLine A))). RanTo x r'.waits_at (h.run.events ++ ds) r'.answers.items) is (ran h.run.events here);
     };
   }
 
   -- a file that was run to its end
-  pub served_is : (r : QueryRun E B) (h : IsQueryRun meaning eyes asks r) → r.waits_at ≡ None → IsQueryFileServed meaning h.given h.lines.items r.eye r.answers.items
+  pub served_is : (r : QueryRun E B) (h : IsQueryRun meaning eyes asks r) → r.waits_at ≡ None → IsQueryFileServed meaning h.given h.lines r.eye r.answers.items
   served_is r h ended = record {
     is_ready = h.run.is_ready;
     same = h.run.same;
     few = subst (λ (o : Option ℕ). AreFew (meaning.calls r.eye) o) ended h.run.few;
     events = h.run.events;
     grown = h.run.grown;
-    ran = subst (λ (o : Option ℕ). RanTo h.lines.items o h.run.events r.answers.items) ended h.run.ran;
+    ran = subst (λ (o : Option ℕ). RanTo h.lines o h.run.events r.answers.items) ended h.run.ran;
   }
 
 module _ {E A B : Type 0} (meaning : EyeMeaning E A B) where

@@ -2,7 +2,7 @@
 use Rattle.std.proofs.Common.{◌≡◌, ℕ, zero, suc, ◌+◌, ◌-◌, ◌^◌, ◌<◌, ◌≤◌, nat_lt, Bool, true, false, cond, List, [], ◌∷◌, ◌++◌, map, length, take, find, Option, Some, None, Vec, All, add-one, length-append, replicate, refl, sym, ap, subst, ◌∙◌, arith}
 use Rattle.std.specs.Prelude.{slice_get}
 use Rattle.std.specs.Option.{option_map, option_map_or, option_or}
-use Rattle.std.proofs.lemmas.List.{take_all, length-replicate}
+use Rattle.std.proofs.lemmas.List.{take_all, length-map, length-replicate}
 use Rattle.std.specs.declared.alloc.Global.{Global}
 use Rattle.ck_run.specs.Tokens.{Table, table}
 use Rattle.ck_ring.specs.State.{Token, state}
@@ -41,41 +41,27 @@ fresh_each t n (x ∷ cs) all (suc k) c e = fresh_each t (n + 1) cs all.1 k c e
 pub fresh_all : (t : Table (Unit {0})) (n : ℕ) (cs : List Token) → AreFresh t n cs → All (λ c. (table c ≡ t) × ((state c).calls ≡ 0)) cs
 fresh_all t n cs all = each_all (Idle t) cs (fresh_each t n cs all)
 
-map_get : {X Y : Type 0} (f : X → Y) (xs : List X) (k : ℕ) (x : X) → slice_get xs k ≡ Some x → slice_get (map f xs) k ≡ Some (f x)
-map_get f [] k x e = cc
-map_get f (y ∷ xs) zero x e = ap (λ (z : _). Some (f z)) (some_same y x e)
-map_get f (y ∷ xs) (suc k) x e = map_get f xs k x e
-
-pub map_long : {X Y : Type 0} (f : X → Y) (xs : List X) → length (map f xs) ≡ length xs
-map_long f [] = refl
-map_long f (x ∷ xs) = let h = map_long f xs in omega arith
-
 pub map_snoc : {X Y : Type 0} (f : X → Y) (xs : List X) (x : X) → map f (xs ++ x ∷ []) ≡ map f xs ++ f x ∷ []
 map_snoc f [] x = refl
 map_snoc f (y ∷ xs) x = ap (λ l. f y ∷ l) (map_snoc f xs x)
 
-module _ {E A B : Type 0} (meaning : EyeMeaning E A B) (eyes : List E) (asks : List (Vec (Numbered (AskLine A)) Global)) where
-  abbrev files : List (List (Numbered (AskLine A)))
-  files = map (λ (file : Vec (Numbered (AskLine A)) Global). file.items) asks
-
+module _ {E A B : Type 0} (meaning : EyeMeaning E A B) (eyes : List E) (asks : List (List (Numbered (AskLine A)))) where
   pub served_step : (i : ℕ) (r : QueryRun E B) (h : IsQueryRun meaning eyes asks r) (backs backs' : List E) (given given' : List (Vec B Global)) → r.file ≡ i → r.waits_at ≡ None → backs' ≡ backs ++ r.eye ∷ [] → given' ≡ given ++ r.answers ∷ []
-      → AreServed meaning (take i eyes) (take i files) backs (map (λ file. file.items) given)
-      → AreServed meaning (take (i + 1) eyes) (take (i + 1) files) backs' (map (λ file. file.items) given')
+      → AreServed meaning (take i eyes) (take i asks) backs (map (λ file. file.items) given)
+      → AreServed meaning (take (i + 1) eyes) (take (i + 1) asks) backs' (map (λ file. file.items) given')
   served_step i r h backs backs' given given' at ended p q all =
       let eye : slice_get eyes i ≡ Some h.given = ap (λ (k : ℕ). slice_get eyes k) (sym at) ∙ h.eye in
       let file : slice_get asks i ≡ Some h.lines = ap (λ (k : ℕ). slice_get asks k) (sym at) ∙ h.file in
-      let line : slice_get files i ≡ Some h.lines.items = map_get (λ (file : Vec (Numbered (AskLine A)) Global). file.items) asks i h.lines file in
       let a : take (i + 1) eyes ≡ take i eyes ++ h.given ∷ [] = take_get eyes i h.given eye in
-      let b : take (i + 1) files ≡ take i files ++ h.lines.items ∷ [] = take_get files i h.lines.items line in
+      let b : take (i + 1) asks ≡ take i asks ++ h.lines ∷ [] = take_get asks i h.lines file in
       let d : map (λ (v : Vec B Global). v.items) given' ≡ map (λ (v : Vec B Global). v.items) given ++ r.answers.items ∷ [] = ap (map (λ (v : Vec B Global). v.items)) q ∙ map_snoc (λ (v : Vec B Global). v.items) given r.answers in
-      rw (a, b, p, d) (served_snoc meaning (take i eyes) (take i files) backs (map (λ (v : Vec B Global). v.items) given) h.given h.lines.items r.eye r.answers.items all (served_is meaning eyes asks r h ended))
+      rw (a, b, p, d) (served_snoc meaning (take i eyes) (take i asks) backs (map (λ (v : Vec B Global). v.items) given) h.given h.lines r.eye r.answers.items all (served_is meaning eyes asks r h ended))
 
-  pub served_whole : (i : ℕ) (backs : List E) (bss : List (List B)) → length eyes ≤ i → length asks ≤ i → AreServed meaning (take i eyes) (take i files) backs bss → AreServed meaning eyes files backs bss
+  pub served_whole : (i : ℕ) (backs : List E) (bss : List (List B)) → length eyes ≤ i → length asks ≤ i → AreServed meaning (take i eyes) (take i asks) backs bss → AreServed meaning eyes asks backs bss
   served_whole i backs bss le_eyes le_files all =
-      let long : length files ≡ length asks = map_long (λ (file : Vec (Numbered (AskLine A)) Global). file.items) asks in
       let a : take i eyes ≡ eyes = take_all i eyes le_eyes in
-      let b : take i files ≡ files = take_all i files (omega arith) in
-      subst (λ (x : List E). AreServed meaning x files backs bss) a (subst (λ (y : List (List (Numbered (AskLine A)))). AreServed meaning (take i eyes) y backs bss) b all)
+      let b : take i asks ≡ asks = take_all i asks le_files in
+      subst (λ (x : List E). AreServed meaning x asks backs bss) a (subst (λ (y : List (List (Numbered (AskLine A)))). AreServed meaning (take i eyes) y backs bss) b all)
 
 -- of two that are both absent, the first
 first_absent : {X : Type 0} (a b : Option X) → option_or a b ≡ None → a ≡ None
@@ -111,7 +97,7 @@ module _ {C A : Type 0} (files : List (List (AskLine A))) (readers : ℕ) (le : 
 
 pub in_range_readers : {C A : Type 0} (ups : List (Numbered (UpLine C))) (asks : List (List (Numbered (AskLine A)))) (readers : ℕ) → length asks ≤ readers → range_fault ups asks ≡ None → HoldReaders readers ups
 in_range_readers ups asks readers le none =
-    hold_readers (map said_of asks) readers (let same = map_long said_of asks in omega (arith, le, same)) ups
+    hold_readers (map said_of asks) readers (let same = length-map asks said_of in omega (arith, le, same)) ups
     (absent_before _ _ (first_absent (first_fault (is_hold_beyond (map said_of asks)) 0 ups) (first_wait_beyond (length (updates (said_of ups))) 1 asks) none))
 
 -- a dictionary that has room for every call has it for each line
@@ -143,9 +129,9 @@ module _ {E A B : Type 0} (meaning : EyeMeaning E A B) where
   numbered_back n (x ∷ es) (y ∷ fs) (z ∷ backs) (w ∷ bss) all numbered = (all.0.same ∙ numbered.0, numbered_back (n + 1) es fs backs bss all.1 numbered.1)
 
 -- a file has no more lines than all files
-pub short_file : {A : Type 0} (asks : List (Vec A Global)) (f : ℕ) (lines : Vec A Global) → slice_get asks f ≡ Some lines → length lines.items ≤ lines_of asks
+pub short_file : {A : Type 0} (asks : List (List A)) (f : ℕ) (lines : List A) → slice_get asks f ≡ Some lines → length lines ≤ lines_of asks
 short_file [] f lines is = absurd (cc)
-short_file (x ∷ asks) zero lines is = let same : length x.items ≡ length lines.items = ap (λ v. length v.items) (some_same x lines is) in omega arith
+short_file (x ∷ asks) zero lines is = let same : length x ≡ length lines = ap (λ l. length l) (some_same x lines is) in omega arith
 short_file (x ∷ asks) (suc f) lines is = let h = short_file asks f lines is in omega arith
 
 pub numbers_snoc : (n : ℕ) → numbers_below (n + 1) ≡ numbers_below n ++ n ∷ []

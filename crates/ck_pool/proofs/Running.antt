@@ -1,8 +1,11 @@
 -- One more load, and one more line.
-use Rattle.std.proofs.Common.{◌≡◌, ℕ, zero, suc, ◌+◌, ◌<◌, List, [], ◌∷◌, ◌++◌, length, take, get_or, Option, Some, refl, sym, ap, subst, ◌∙◌, append_assoc, arith}
+use Rattle.std.proofs.Common.{◌≡◌, ℕ, zero, suc, ◌+◌, ◌<◌, List, [], ◌∷◌, ◌++◌, length, map, take, get_or, Option, Some, Result, MatchBool, refl, sym, ap, subst, ◌∙◌, append_assoc, arith}
 use Rattle.std.specs.Prelude.{slice_get}
-use Rattle.std.proofs.lemmas.List.{take_more}
-use Rattle.std.specs.declared.result.Result.TheVariants.{Err}
+use Rattle.std.specs.Option.{option_map}
+use Rattle.std.proofs.lemmas.Option.{slice_get-map}
+use Rattle.std.proofs.lemmas.List.{length-map, take_more}
+use Rattle.std.specs.declared.result.Result.TheVariants.{Ok, Err}
+use Rattle.std.specs.Result.{is_ok}
 use Rattle.std.proofs.lemmas.List.{append-nil}
 use Rattle.ck_history.specs.declared.event.ReaderEvent.{ReaderEvent}
 use Rattle.ck_history.specs.declared.event.ReaderEvent.TheVariants.{Reached}
@@ -28,6 +31,14 @@ module _ {A B : Type 0} where
   asks_snoc (x ∷ ls) l ds d bs b (e, rest, c, more, p, q, first, later) line =
       (e, rest ++ d, c, more ++ b, ap (λ z. z ++ d) p ∙ append_assoc e rest d, ap (λ z. z ++ b) q ∙ append_assoc c more b, first, asks_snoc ls l rest d more b later line)
 
+  -- a line of a `wait` is done where its load met it
+  pub wait_ran : (line : AskLine A) (n : ℕ) (found : Result (Unit {0}) ℕ) (before after : List (ReaderEvent A B)) (bs : List B) (calls calls' : ℕ) → line ≡ Wait n → after ≡ before ++ Reached n found ∷ [] → calls' ≡ calls
+      → MatchBool (is_ok found)
+      ((ds : List (ReaderEvent A B)) × (b : List B) × (after ≡ before ++ ds) × (bs ≡ bs ++ b) × QueryLineRan line ds b)
+      ((m : ℕ) × (count : ℕ) × (line ≡ Wait m) × (after ≡ before ++ short_loads m (count ∷ [])) × (calls' ≡ calls) × (bs ≡ bs))
+  wait_ran line n (Ok tt) before after bs calls calls' is done same = (final_load n ∷ [], [], done, sym (append-nil bs), rw is ([], refl, refl))
+  wait_ran line n (Err count) before after bs calls calls' is done same = (n, count, is, done, same, refl)
+
 module _ {C R : Type 0} where
   answer_loads_snoc : (r m : ℕ) (ms : List ℕ) → answer_loads {C = C} {R = R} r ms ++ Told r m ∷ [] ≡ answer_loads r (ms ++ m ∷ [])
   answer_loads_snoc r m [] = refl
@@ -42,11 +53,6 @@ module _ {C R : Type 0} where
       (e, rest ++ d, c, more ++ r, ap (λ z. z ++ d) p ∙ append_assoc e rest d, ap (λ z. z ++ r) q ∙ append_assoc c more r, first, updates_snoc ls l rest d more r later line)
 
 -- the hold of line i names a reader that there is
-pub within_at : {C : Type 0} (readers : ℕ) (ls : List (Numbered (UpLine C))) (i : ℕ) (d : Numbered (UpLine C)) → i < length ls → HoldReaders readers ls → HoldsReader readers (get_or ls i d).what
-within_at readers [] i d lt h = absurd (omega arith)
-within_at readers (l ∷ ls) zero d lt h = h.0
-within_at readers (l ∷ ls) (suc i) d lt h = within_at readers ls i d (omega arith) h.1
-
 -- an element that was read
 module _ {A : Type 0} where
   pub get_at : (xs : List A) (i : ℕ) (x : A) → i < length xs → x ≡ get_or xs i x → slice_get xs i ≡ Some x
@@ -72,6 +78,21 @@ module _ {A : Type 0} where
 
   pub take_one_more : (xs : List A) (i : ℕ) (x : A) → i < length xs → x ≡ get_or xs i x → take (i + 1) xs ≡ take i xs ++ x ∷ []
   take_one_more xs i x lt e = take_more xs i x lt ∙ ap (λ (y : A). take i xs ++ y ∷ []) (sym e)
+
+pub within_at : {C : Type 0} (readers : ℕ) (ls : List (Numbered (UpLine C))) (i : ℕ) (line : Numbered (UpLine C)) → slice_get ls i ≡ Some line → HoldReaders readers ls → HoldsReader readers line.what
+within_at readers [] i line is h = cc
+within_at readers (l ∷ ls) zero line is h = subst (λ (x : Numbered (UpLine _)). HoldsReader readers x.what) (some_same l line is) h.0
+within_at readers (l ∷ ls) (suc i) line is h = within_at readers ls i line is h.1
+
+-- what stands in a list at the place of an element of another from which it is made
+pub map_get : {X Y : Type 0} (f : X → Y) (xs : List X) (i : ℕ) (x : X) → slice_get xs i ≡ Some x → slice_get (map f xs) i ≡ Some (f x)
+map_get f xs i x is = slice_get-map f xs i ∙ ap (option_map f) is
+
+pub map_lt : {X Y : Type 0} (f : X → Y) (xs : List X) (i : ℕ) (y : Y) → slice_get (map f xs) i ≡ Some y → i < length xs
+map_lt f xs i y is = let lt = get_lt (map f xs) i y is in let long = length-map xs f in omega arith
+
+pub map_there : {X Y : Type 0} (f : X → Y) (xs : List X) (i : ℕ) (y : Y) (x : X) → slice_get (map f xs) i ≡ Some y → x ≡ get_or xs i x → y ≡ f x
+map_there f xs i y x is at = some_same y (f x) (sym is ∙ map_get f xs i x (get_at xs i x (map_lt f xs i y is) at))
 
 wait_same : {A : Type 0} (x : AskLine A) (n m : ℕ) → x ≡ Wait n → x ≡ Wait m → n ≡ m
 wait_same x n m e f = cc

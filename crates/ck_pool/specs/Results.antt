@@ -1,7 +1,6 @@
 -- What a job comes to, of whatever structure.
-use Rattle.std.specs.Prelude.{◌≡◌, ℕ, List, length, map, Option, Vec}
+use Rattle.std.specs.Prelude.{◌≡◌, ℕ, List, length, map, Option}
 use Rattle.std.specs.Ordering.{nat_cmp}
-use Rattle.std.specs.declared.alloc.Global.{Global}
 use Rattle.ck_history.specs.declared.update.Update.{Update}
 use Rattle.ck_history.specs.declared.update.Reply.{Reply}
 use Rattle.ck_history.specs.Map.{Map, after, answer_after, replies}
@@ -30,8 +29,8 @@ abbrev pub map_of : ℕ → SequentialObject (Update ℕ) Reply ℕ (Option ℕ)
 map_of most = record { replies = replies nat_cmp most; answer_after = answer_after nat_cmp most; after = after nat_cmp most }
 
 -- what the lines of a job ask for
-abbrev pub job_script : {C Q : Type 0} → List (Numbered (UpLine C)) → List (Vec (Numbered (AskLine Q)) Global) → ScriptOf C Q
-job_script ups asks = script_of (said_of ups) (map said_of (map (λ file. file.items) asks))
+abbrev pub job_script : {C Q : Type 0} → List (Numbered (UpLine C)) → List (List (Numbered (AskLine Q))) → ScriptOf C Q
+job_script ups asks = script_of (said_of ups) (map said_of asks)
 
 abbrev pub AreMapResults : ℕ → Script ℕ → MapResults → Type 0
 AreMapResults most script x = AreResults (map_of most) script x.replies.items (map (λ file. file.items) x.answers.items) x.pairs.items

@@ -1,6 +1,5 @@
 -- What `serve` asks of a job, and what it tells of it.
-use Rattle.std.specs.Prelude.{◌≡◌, ℕ, ◌+◌, ◌<◌, List, [], ◌∷◌, ◌++◌, length, take, Some, Vec, slice_get}
-use Rattle.std.specs.declared.alloc.Global.{Global}
+use Rattle.std.specs.Prelude.{◌≡◌, ℕ, ◌+◌, ◌<◌, List, [], ◌∷◌, ◌++◌, length, take, Some, slice_get}
 use Rattle.ck_history.specs.declared.event.WriterEvent.{WriterEvent}
 use Rattle.ck_history.specs.declared.event.ReaderEvent.{ReaderEvent}
 use Rattle.ck_run.specs.Ends.{EachFrom}
@@ -13,12 +12,12 @@ use Rattle.ck_pool.specs.Meaning.{HandMeaning, EyeMeaning}
 use Rattle.ck_pool.specs.Runs.{UpdatesRan, QueriesRan}
 
 -- how many lines files have together
-abbrev pub lines_of : {A : Type 0} → List (Vec A Global) → ℕ
+abbrev pub lines_of : {A : Type 0} → List (List A) → ℕ
 lines_of [] = 0
-lines_of (file ∷ files) = length file.items + lines_of files
+lines_of (file ∷ files) = length file + lines_of files
 
 -- how many lines a job has
-abbrev pub line_total : {U A : Type 0} → List U → List (Vec A Global) → ℕ
+abbrev pub line_total : {U A : Type 0} → List U → List (List A) → ℕ
 line_total ups asks = length ups + lines_of asks
 
 module _ {H C R : Type 0} (hands : HandMeaning H C R) where

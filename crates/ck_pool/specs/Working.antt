@@ -1,6 +1,5 @@
 -- What is known of files while they are run.
-use Rattle.std.specs.Prelude.{◌≡◌, ℕ, zero, suc, ◌+◌, ◌*◌, ◌-◌, ◌^◌, ◌<◌, ◌≤◌, ◌==◌, ◌⊎◌, List, [], ◌∷◌, ◌++◌, length, take, Option, Some, None, Vec, slice_get, cond}
-use Rattle.std.specs.declared.alloc.Global.{Global}
+use Rattle.std.specs.Prelude.{◌≡◌, ℕ, zero, suc, ◌+◌, ◌*◌, ◌-◌, ◌^◌, ◌<◌, ◌≤◌, ◌==◌, ◌⊎◌, List, [], ◌∷◌, ◌++◌, length, take, Option, Some, None, slice_get, cond}
 use mathlib.Core.Option.{some}
 use lib.ListN.{get_elem?}
 use Rattle.ck_history.specs.declared.event.ReaderEvent.{ReaderEvent}
@@ -51,8 +50,8 @@ AreFew calls None = calls < call_bound
 AreFew calls (Some i) = calls ≤ start_call_bound + 8 * i
 
 -- no file has more lines than a job may have
-abbrev pub AreShort : {A : Type 0} → List (Vec A Global) → Type 0
-AreShort {A} asks = (f : ℕ) (lines : Vec A Global) → slice_get asks f ≡ Some lines → length lines.items ≤ most_job_lines
+abbrev pub AreShort : {A : Type 0} → List (List A) → Type 0
+AreShort {A} asks = (f : ℕ) (lines : List A) → slice_get asks f ≡ Some lines → length lines ≤ most_job_lines
 
 -- how many of these runs are of file f
 abbrev pub runs_of : {E B : Type 0} → ℕ → List (QueryRun E B) → ℕ
@@ -65,7 +64,7 @@ HasRuns clerk runs = (f : ℕ) → occurrences f clerk.known.took ≡ runs_of f 
 
 module _ {E A B : Type 0} (eyes : EyeMeaning E A B) where
   -- the query files, and the eyes that were put on the desk for them
-  pub record AreOnDesk (given : List E) (asks : List (Vec (Numbered (AskLine A)) Global)) : Type 0 where
+  pub record AreOnDesk (given : List E) (asks : List (List (Numbered (AskLine A)))) : Type 0 where
     pub long : length asks ≡ length given
     pub some_file : 1 ≤ length asks
     pub few : length asks ≤ most_query_files
@@ -81,14 +80,14 @@ module _ {E A B : Type 0} (eyes : EyeMeaning E A B) where
     pub grown : eyes.done r.eye ≡ eyes.done given ++ events
     pub ran : RanTo lines r.waits_at events r.answers.items
 
-  module _ (given_eyes : List E) (asks : List (Vec (Numbered (AskLine A)) Global)) where
+  module _ (given_eyes : List E) (asks : List (List (Numbered (AskLine A)))) where
     -- the file of a run was run with the eye that was given for it
     pub record IsQueryRun (r : QueryRun E B) : Type 0 where
       pub given : E
-      pub lines : Vec (Numbered (AskLine A)) Global
+      pub lines : List (Numbered (AskLine A))
       pub eye : slice_get given_eyes r.file ≡ Some given
       pub file : slice_get asks r.file ≡ Some lines
-      pub run : IsFileRun given lines.items r
+      pub run : IsFileRun given lines r
 
     abbrev pub AreQueryRuns : List (QueryRun E B) → Type 0
     AreQueryRuns runs = (k : ℕ) (r : QueryRun E B) → slice_get runs k ≡ Some r → IsQueryRun r

@@ -2,6 +2,7 @@
 ghost use Rattle.std.specs.Prelude.{◌≡◌, ◌+◌, ◌<◌, ◌≤◌, ◌^◌, ◌++◌, ◌∷◌, [], IfOk, OnErr};
 ghost use Rattle.ck_pool.specs.Limits.{call_bound};
 
+use ck_script::{AskLine, LineList, UpLine};
 use std::alloc::{AllocError, Global};
 use std::sync::Wait;
 
@@ -23,6 +24,12 @@ pub trait Dict: Sync {
 
     /// What a query answers.
     type Answer: Drop + Send;
+
+    /// The lines of an update file, however they are kept.
+    type UpFile: LineList<UpLine<Self::Call>> + Drop + Sync;
+
+    /// The lines of a query file, however they are kept.
+    type AskFile: LineList<AskLine<Self::Ask>> + Drop + Sync;
 
     /// The end with which updates are made. There is one, and it needs no Drop: some structures take it back only where they are closed.
     type Hand: Send;

@@ -1,5 +1,5 @@
 //! How the files come back from the workers.
-ghost use Rattle.std.specs.Prelude.{◌≡◌, ◌≢◌, ◌+◌, ◌<◌, ◌≤◌, ℕ, [], ◌∷◌, length, vec_len, slice_get, take, IfOk, OnOk, MatchOption, All, Some, None};
+ghost use Rattle.std.specs.Prelude.{◌≡◌, ◌≢◌, ◌+◌, ◌<◌, ◌≤◌, ℕ, [], ◌∷◌, length, vec_len, map, slice_get, take, IfOk, OnOk, MatchOption, All, Some, None};
 ghost use Rattle.ck_pool.specs.declared.query_run.QueryRun.{QueryRun};
 ghost use Rattle.ck_pool.specs.Desk.{occurrences, all_parts, IsClerkOf};
 ghost use Rattle.ck_pool.specs.Working.{IsQueryRun, AreEnded, IsWorked, AreOnDesk, HasRuns, runs_of};
@@ -10,7 +10,6 @@ use crate::dict::Dict;
 use crate::query_run::{QueryRun, finish, start};
 use crate::worker::Worked;
 use ck_io::Gate;
-use ck_script::{AskLine, Numbered};
 use std::alloc::AllocError;
 use std::sync::Wait;
 
@@ -19,16 +18,16 @@ pub fn gather<D: Dict, G: Gate, R: Wait>(
     context: &Context<D, G, R>,
     desk: &Desk<D::Eye>,
     clerk: &mut Clerk<D::Eye>,
-    asks: &[Vec<Numbered<AskLine<D::Ask>>>],
+    asks: &[D::AskFile],
     worked: Vec<Result<Worked<D::Eye, D::Answer>, AllocError>>,
     runs: &mut Vec<QueryRun<D::Eye, D::Answer>>,
 ) -> Result<(), AllocError>
     requires clerk { IsClerkOf desk.now clerk.old × (clerk.old.known.parts + vec_len worked ≡ all_parts) × (clerk.old.known.took ≡ []) }
     requires files { 0 < length desk.now.eyes }
-    requires each { All (λ one. IfOk one (IsWorked (D.eyes context.now.dict.now) desk.now.eyes asks.now desk.now)) worked.items }
+    requires each { All (λ one. IfOk one (IsWorked (D.eyes context.now.dict.now) desk.now.eyes (map D.AskFile.items asks.now) desk.now)) worked.items }
     requires none { runs.old.items ≡ [] }
     ensures clerk { OnOk result (IsClerkOf desk.now clerk.new × (clerk.new.known.parts ≡ all_parts)) }
-    ensures each { OnOk result (AreEnded (D.eyes context.now.dict.now) desk.now.eyes asks.now runs.new.items) }
+    ensures each { OnOk result (AreEnded (D.eyes context.now.dict.now) desk.now.eyes (map D.AskFile.items asks.now) runs.new.items) }
     ensures all { OnOk result (HasRuns clerk.new runs.new.items) }
 {
     // Only the contract reads these: they say which dictionary and which lines the files were run with.
@@ -64,20 +63,20 @@ pub fn ended_run<D: Dict, G: Gate, R: Wait>(
     context: &Context<D, G, R>,
     desk: &Desk<D::Eye>,
     clerk: &mut Clerk<D::Eye>,
-    asks: &[Vec<Numbered<AskLine<D::Ask>>>],
+    asks: &[D::AskFile],
     runs: &mut Vec<QueryRun<D::Eye, D::Answer>>,
     file: usize,
 ) -> Result<QueryRun<D::Eye, D::Answer>, AllocError>
     requires clerk { IsClerkOf desk.now clerk.old × (clerk.old.known.parts ≡ all_parts) }
-    requires files { AreOnDesk (D.eyes context.now.dict.now) desk.now.eyes asks.now }
+    requires files { AreOnDesk (D.eyes context.now.dict.now) desk.now.eyes (map D.AskFile.items asks.now) }
     requires file { file < length asks.now }
-    requires each { AreEnded (D.eyes context.now.dict.now) desk.now.eyes asks.now runs.old.items }
+    requires each { AreEnded (D.eyes context.now.dict.now) desk.now.eyes (map D.AskFile.items asks.now) runs.old.items }
     requires all { occurrences file clerk.old.known.took ≡ runs_of file runs.old.items }
     ensures clerk { IsClerkOf desk.now clerk.new × (clerk.new.known.parts ≡ all_parts) }
     ensures took { IfOk result (λ _. (f : ℕ) → f ≢ file → occurrences f clerk.new.known.took ≡ occurrences f clerk.old.known.took) }
     ensures file { IfOk result (λ r. r.file ≡ file) }
-    ensures run { IfOk result (λ r. IsQueryRun (D.eyes context.now.dict.now) desk.now.eyes asks.now r × (r.waits_at ≡ None)) }
-    ensures each { IfOk result (λ _. AreEnded (D.eyes context.now.dict.now) desk.now.eyes asks.now runs.new.items) }
+    ensures run { IfOk result (λ r. IsQueryRun (D.eyes context.now.dict.now) desk.now.eyes (map D.AskFile.items asks.now) r × (r.waits_at ≡ None)) }
+    ensures each { IfOk result (λ _. AreEnded (D.eyes context.now.dict.now) desk.now.eyes (map D.AskFile.items asks.now) runs.new.items) }
     ensures rest { IfOk result (λ _. (f : ℕ) → f ≢ file → runs_of f runs.new.items ≡ runs_of f runs.old.items) }
 {
     if let Some(k) = find_run(runs, file) {

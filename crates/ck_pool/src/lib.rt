@@ -21,7 +21,7 @@ mod updates;
 mod worker;
 
 pub use dict::Dict;
-pub use job::{Job, Served};
+pub use job::{Job, MapJob, Served};
 pub use map_results::MapResults;
 pub use over_snap::run_over_snap;
 pub use serving::serve;

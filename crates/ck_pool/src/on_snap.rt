@@ -1,6 +1,7 @@
 //! The snapshot dictionary as one that the pool runs on.
 use crate::dict::Dict;
 use ck_history::{Key, Look, Reply, Update};
+use ck_script::{AskLine, Lines, UpLine};
 use ck_snap::{Snap, SnapPass, SnapWriter};
 use std::alloc::{AllocError, Global};
 use std::sync::Wait;
@@ -15,6 +16,10 @@ impl Dict for Snap {
     type Ask = Key;
 
     type Answer = Option<u64>;
+
+    type UpFile = Lines<UpLine<Update<Key>>>;
+
+    type AskFile = Lines<AskLine<Key>>;
 
     type Hand = SnapWriter;
 

@@ -9,10 +9,9 @@ ghost use Rattle.ck_pool.specs.Served.{line_total};
 ghost use Rattle.ck_pool.specs.Results.{job_script, AreMapResults};
 ghost use Rattle.ck_pool.specs.Snapshots.{AllPlacedIn};
 
-use crate::job::{Job, Served};
+use crate::job::{MapJob, Served};
 use crate::map_results::MapResults;
 use crate::serving::serve;
-use ck_history::{Key, Update};
 use ck_io::Gate;
 use ck_snap::{Snap, SnapPass, SnapWriter};
 use std::alloc::{AllocError, Global};
@@ -47,7 +46,7 @@ fn serve_and_tie<G: Gate + Sync, R: Threads + Wait + Sync>(
     snap: &Snap,
     hand: &mut SnapWriter,
     passes: Vec<SnapPass>,
-    job: &Job<Update<Key>, Key>,
+    job: &MapJob,
     workers: u64,
     gate: &G,
 ) -> Result<MapResults, AllocError>
@@ -55,11 +54,11 @@ fn serve_and_tie<G: Gate + Sync, R: Threads + Wait + Sync>(
     requires passes { AreFreshSnapPasses snap.now 0 passes.items × (vec_len passes ≡ length job.now.asks.items) × (snap.now.readers ≡ length job.now.asks.items) }
     requires files { (1 ≤ length job.now.asks.items) × (length job.now.asks.items ≤ most_query_files) }
     requires workers { (1 ≤ workers) × (workers ≤ most_workers) }
-    requires lines { line_total job.now.ups.items job.now.asks.items ≤ most_job_lines }
+    requires lines { line_total job.now.ups.items (map (λ file. file.items) job.now.asks.items) ≤ most_job_lines }
     requires ranges { range_fault job.now.ups.items (map (λ file. file.items) job.now.asks.items) ≡ None }
     requires no_hold { holds 0 (said_of job.now.ups.items) ≡ [] }
     ensures hand { IsWriterOf snap.now hand.new }
-    ensures answered { IfOk result (AreMapResults most_pairs (job_script job.now.ups.items job.now.asks.items)) }
+    ensures answered { IfOk result (AreMapResults most_pairs (job_script job.now.ups.items (map (λ file. file.items) job.now.asks.items))) }
 {
     let served = serve(rt, alloc, snap, hand, passes, job, workers, gate)?;
     let Served {
@@ -84,16 +83,16 @@ fn serve_and_tie<G: Gate + Sync, R: Threads + Wait + Sync>(
 pub fn run_over_snap<G: Gate + Sync, R: Threads + Wait + Sync>(
     rt: &R,
     alloc: Global,
-    job: &Job<Update<Key>, Key>,
+    job: &MapJob,
     workers: u64,
     gate: &G,
 ) -> Result<MapResults, AllocError>
     requires files { (1 ≤ length job.now.asks.items) × (length job.now.asks.items ≤ most_query_files) }
     requires workers { (1 ≤ workers) × (workers ≤ most_workers) }
-    requires lines { line_total job.now.ups.items job.now.asks.items ≤ most_job_lines }
+    requires lines { line_total job.now.ups.items (map (λ file. file.items) job.now.asks.items) ≤ most_job_lines }
     requires ranges { range_fault job.now.ups.items (map (λ file. file.items) job.now.asks.items) ≡ None }
     requires no_hold { holds 0 (said_of job.now.ups.items) ≡ [] }
-    ensures { IfOk result (AreMapResults most_pairs (job_script job.now.ups.items job.now.asks.items)) }
+    ensures { IfOk result (AreMapResults most_pairs (job_script job.now.ups.items (map (λ file. file.items) job.now.asks.items))) }
 {
     let (snap, mut hand, passes) = Snap::new(rt, alloc, job.asks.len() as u64)?;
     let answered = serve_and_tie(rt, alloc, &snap, &mut hand, passes, job, workers, gate);

@@ -9,7 +9,7 @@ ghost use Rattle.ck_pool.specs.Working.{IsHalted, RanTo, IsWaitLine, AreFew};
 use crate::context::Context;
 use crate::dict::Dict;
 use ck_io::Gate;
-use ck_script::{AskLine, Numbered};
+use ck_script::{AskLine, LineList};
 use std::alloc::AllocError;
 use std::sync::Wait;
 
@@ -48,22 +48,22 @@ pub fn run_from<D: Dict, G: Gate, R: Wait>(
     context: &Context<D, G, R>,
     who: u64,
     eye: &mut D::Eye,
-    lines: &[Numbered<AskLine<D::Ask>>],
+    lines: &D::AskFile,
     next: usize,
     answers: &mut Vec<D::Answer>,
 ) -> Result<Option<usize>, AllocError>
     requires ready { (D.eyes context.now.dict.now).ready eye.old }
     requires calls { (D.eyes context.now.dict.now).calls eye.old ≤ start_call_bound + 8 * next }
-    requires lines { (next ≤ length lines.now) × (length lines.now ≤ most_job_lines) }
+    requires lines { (next ≤ length (D.AskFile.items lines.now)) × (length (D.AskFile.items lines.now) ≤ most_job_lines) }
     ensures ready { (D.eyes context.now.dict.now).ready eye.new }
     ensures number { (D.eyes context.now.dict.now).number eye.new ≡ (D.eyes context.now.dict.now).number eye.old }
     ensures calls { IfOk result (λ waits_at. AreFew ((D.eyes context.now.dict.now).calls eye.new) waits_at) }
     ensures ran { IfOk result (λ waits_at. (events : List (ReaderEvent D.Ask D.Answer))
         × ((D.eyes context.now.dict.now).done eye.new ≡ (D.eyes context.now.dict.now).done eye.old ++ events)
-        × ((before : List (ReaderEvent D.Ask D.Answer)) → QueriesRan (take next lines.now) before answers.old.items → RanTo lines.now waits_at (before ++ events) answers.new.items)) }
+        × ((before : List (ReaderEvent D.Ask D.Answer)) → QueriesRan (take next (D.AskFile.items lines.now)) before answers.old.items → RanTo (D.AskFile.items lines.now) waits_at (before ++ events) answers.new.items)) }
 {
     for i in next..lines.len() {
-        let line = &lines[i];
+        let line = lines.get(i);
         context.gate.before(who, line.line);
         if !run_line(context, eye, &line.what, answers)? {
             return Ok(Some(i));
@@ -77,23 +77,23 @@ pub fn retry_wait<D: Dict, G: Gate, R: Wait>(
     context: &Context<D, G, R>,
     who: u64,
     eye: &mut D::Eye,
-    lines: &[Numbered<AskLine<D::Ask>>],
+    lines: &D::AskFile,
     at: usize,
     answers: &mut Vec<D::Answer>,
 ) -> Result<Option<usize>, AllocError>
     requires ready { (D.eyes context.now.dict.now).ready eye.old }
     requires calls { (D.eyes context.now.dict.now).calls eye.old ≤ start_call_bound + 8 * at }
-    requires lines { length lines.now ≤ most_job_lines }
-    requires waits { IsWaitLine lines.now at }
+    requires lines { length (D.AskFile.items lines.now) ≤ most_job_lines }
+    requires waits { IsWaitLine (D.AskFile.items lines.now) at }
     ensures ready { (D.eyes context.now.dict.now).ready eye.new }
     ensures number { (D.eyes context.now.dict.now).number eye.new ≡ (D.eyes context.now.dict.now).number eye.old }
     ensures calls { IfOk result (λ waits_at. AreFew ((D.eyes context.now.dict.now).calls eye.new) waits_at) }
     ensures ran { IfOk result (λ waits_at. (events : List (ReaderEvent D.Ask D.Answer))
         × ((D.eyes context.now.dict.now).done eye.new ≡ (D.eyes context.now.dict.now).done eye.old ++ events)
-        × ((before : List (ReaderEvent D.Ask D.Answer)) → IsHalted lines.now at before answers.old.items → RanTo lines.now waits_at (before ++ events) answers.new.items)) }
+        × ((before : List (ReaderEvent D.Ask D.Answer)) → IsHalted (D.AskFile.items lines.now) at before answers.old.items → RanTo (D.AskFile.items lines.now) waits_at (before ++ events) answers.new.items)) }
 {
-    let line = &lines[at];
-    if !run_line(context, eye, &line.what, answers)? {
+    let line = lines.what(at);
+    if !run_line(context, eye, &line, answers)? {
         return Ok(Some(at));
     }
     let waits_at = run_from(context, who, eye, lines, at + 1, answers)?;

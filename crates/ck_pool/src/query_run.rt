@@ -1,5 +1,5 @@
 //! A query file that a task has taken: how it is started, and how it goes on from a `wait`.
-ghost use Rattle.std.specs.Prelude.{◌≡◌, ◌+◌, ◌<◌, ◌≤◌, ◌^◌, ◌∷◌, length, slice_get, IfOk, MatchOption, None};
+ghost use Rattle.std.specs.Prelude.{◌≡◌, ◌+◌, ◌<◌, ◌≤◌, ◌^◌, ◌∷◌, length, map, slice_get, IfOk, MatchOption, None};
 ghost use Rattle.ck_pool.specs.Limits.{most_job_lines, start_call_bound};
 ghost use Rattle.ck_pool.specs.Desk.{occurrences, all_parts, IsClerkOf};
 ghost use Rattle.ck_pool.specs.Working.{IsFileRun, IsQueryRun, AreOnDesk};
@@ -9,7 +9,6 @@ use crate::desk::{Clerk, Desk};
 use crate::dict::Dict;
 use crate::query_lines::{retry_wait, run_from};
 use ck_io::Gate;
-use ck_script::{AskLine, Numbered};
 use crossbeam_utils::Backoff;
 use std::alloc::AllocError;
 use std::sync::Wait;
@@ -28,14 +27,14 @@ fn run_file<D: Dict, G: Gate, R: Wait>(
     context: &Context<D, G, R>,
     eye: D::Eye,
     file: usize,
-    lines: &[Numbered<AskLine<D::Ask>>],
+    lines: &D::AskFile,
 ) -> Result<QueryRun<D::Eye, D::Answer>, AllocError>
     requires ready { (D.eyes context.now.dict.now).ready eye }
     requires calls { (D.eyes context.now.dict.now).calls eye < start_call_bound }
     requires file { file < 2 ^ 63 }
-    requires lines { length lines.now ≤ most_job_lines }
+    requires lines { length (D.AskFile.items lines.now) ≤ most_job_lines }
     ensures file { IfOk result (λ r. r.file ≡ file) }
-    ensures run { IfOk result (λ r. IsFileRun (D.eyes context.now.dict.now) eye lines.now r) }
+    ensures run { IfOk result (λ r. IsFileRun (D.eyes context.now.dict.now) eye (D.AskFile.items lines.now) r) }
 {
     let mut run = QueryRun {
         file,
@@ -53,16 +52,16 @@ pub fn start<D: Dict, G: Gate, R: Wait>(
     context: &Context<D, G, R>,
     desk: &Desk<D::Eye>,
     clerk: &mut Clerk<D::Eye>,
-    asks: &[Vec<Numbered<AskLine<D::Ask>>>],
+    asks: &[D::AskFile],
     file: usize,
 ) -> Result<Option<QueryRun<D::Eye, D::Answer>>, AllocError>
     requires clerk { IsClerkOf desk.now clerk.old }
-    requires files { AreOnDesk (D.eyes context.now.dict.now) desk.now.eyes asks.now }
+    requires files { AreOnDesk (D.eyes context.now.dict.now) desk.now.eyes (map D.AskFile.items asks.now) }
     requires file { file < length asks.now }
     ensures clerk { IsClerkOf desk.now clerk.new × (clerk.new.known.parts ≡ clerk.old.known.parts) }
     ensures ran { IfOk result (λ o. MatchOption o
         ((clerk.new ≡ clerk.old) × (clerk.old.known.parts ≡ all_parts → occurrences file clerk.old.known.took ≡ 1))
-        (λ r. (r.file ≡ file) × IsQueryRun (D.eyes context.now.dict.now) desk.now.eyes asks.now r × (clerk.new.known.took ≡ file ∷ clerk.old.known.took))) }
+        (λ r. (r.file ≡ file) × IsQueryRun (D.eyes context.now.dict.now) desk.now.eyes (map D.AskFile.items asks.now) r × (clerk.new.known.took ≡ file ∷ clerk.old.known.took))) }
 {
     let Some(eye) = desk.take(clerk, file) else {
         return Ok(None);
@@ -75,20 +74,20 @@ pub fn start<D: Dict, G: Gate, R: Wait>(
 pub fn load_again<D: Dict, G: Gate, R: Wait>(
     context: &Context<D, G, R>,
     desk: &Desk<D::Eye>,
-    asks: &[Vec<Numbered<AskLine<D::Ask>>>],
+    asks: &[D::AskFile],
     run: QueryRun<D::Eye, D::Answer>,
 ) -> Result<QueryRun<D::Eye, D::Answer>, AllocError>
-    requires run { IsQueryRun (D.eyes context.now.dict.now) desk.now.eyes asks.now run }
-    requires files { AreOnDesk (D.eyes context.now.dict.now) desk.now.eyes asks.now }
+    requires run { IsQueryRun (D.eyes context.now.dict.now) desk.now.eyes (map D.AskFile.items asks.now) run }
+    requires files { AreOnDesk (D.eyes context.now.dict.now) desk.now.eyes (map D.AskFile.items asks.now) }
     ensures file { IfOk result (λ r. r.file ≡ run.file) }
-    ensures run { IfOk result (λ r. IsQueryRun (D.eyes context.now.dict.now) desk.now.eyes asks.now r) }
+    ensures run { IfOk result (λ r. IsQueryRun (D.eyes context.now.dict.now) desk.now.eyes (map D.AskFile.items asks.now) r) }
 {
     let Some(at) = run.waits_at else {
         return Ok(run);
     };
     let mut run = run;
     let who = run.file as u64 + 1;
-    let lines = asks[run.file].as_slice();
+    let lines = &asks[run.file];
     run.waits_at = retry_wait(context, who, &mut run.eye, lines, at, &mut run.answers)?;
     Ok(run)
 }
@@ -98,13 +97,13 @@ pub fn load_again<D: Dict, G: Gate, R: Wait>(
 pub fn finish<D: Dict, G: Gate, R: Wait>(
     context: &Context<D, G, R>,
     desk: &Desk<D::Eye>,
-    asks: &[Vec<Numbered<AskLine<D::Ask>>>],
+    asks: &[D::AskFile],
     run: QueryRun<D::Eye, D::Answer>,
 ) -> Result<QueryRun<D::Eye, D::Answer>, AllocError>
-    requires run { IsQueryRun (D.eyes context.now.dict.now) desk.now.eyes asks.now run }
-    requires files { AreOnDesk (D.eyes context.now.dict.now) desk.now.eyes asks.now }
+    requires run { IsQueryRun (D.eyes context.now.dict.now) desk.now.eyes (map D.AskFile.items asks.now) run }
+    requires files { AreOnDesk (D.eyes context.now.dict.now) desk.now.eyes (map D.AskFile.items asks.now) }
     ensures file { IfOk result (λ r. r.file ≡ run.file) }
-    ensures run { IfOk result (λ r. IsQueryRun (D.eyes context.now.dict.now) desk.now.eyes asks.now r) }
+    ensures run { IfOk result (λ r. IsQueryRun (D.eyes context.now.dict.now) desk.now.eyes (map D.AskFile.items asks.now) r) }
     ensures ended { IfOk result (λ r. r.waits_at ≡ None) }
 {
     let backoff = Backoff::new();

@@ -20,7 +20,6 @@ use crate::shortage::Shortage;
 use crate::worker::Worker;
 use ck_io::Gate;
 use ck_ring::{Consumer, Producer, Ring};
-use ck_script::{AskLine, Numbered};
 use std::alloc::{AllocError, Global};
 use std::sync::Wait;
 use std::thread::Threads;
@@ -78,14 +77,14 @@ fn collect<D: Dict, G: Gate, R: Wait>(
     context: &Context<D, G, R>,
     desk: &Desk<D::Eye>,
     clerk: &mut Clerk<D::Eye>,
-    asks: &[Vec<Numbered<AskLine<D::Ask>>>],
+    asks: &[D::AskFile],
     runs: &mut Vec<QueryRun<D::Eye, D::Answer>>,
 ) -> Result<(Vec<Vec<D::Answer>>, Vec<D::Eye>), AllocError>
     requires clerk { IsClerkOf desk.now clerk.old × (clerk.old.known.parts ≡ all_parts) }
-    requires files { AreOnDesk (D.eyes context.now.dict.now) desk.now.eyes asks.now }
-    requires each { AreEnded (D.eyes context.now.dict.now) desk.now.eyes asks.now runs.old.items }
+    requires files { AreOnDesk (D.eyes context.now.dict.now) desk.now.eyes (map D.AskFile.items asks.now) }
+    requires each { AreEnded (D.eyes context.now.dict.now) desk.now.eyes (map D.AskFile.items asks.now) runs.old.items }
     requires all { HasRuns clerk.old runs.old.items }
-    ensures { IfOk result (λ x. AreServed (D.eyes context.now.dict.now) desk.now.eyes (map (λ file. file.items) asks.now) x.1.items (map (λ file. file.items) x.0.items)) }
+    ensures { IfOk result (λ x. AreServed (D.eyes context.now.dict.now) desk.now.eyes (map D.AskFile.items asks.now) x.1.items (map (λ file. file.items) x.0.items)) }
 {
     let mut answers = Vec::new(context.alloc);
     let mut eyes = Vec::new(context.alloc);
@@ -107,25 +106,24 @@ fn run_tasks<D: Dict, G: Gate + Sync, R: Threads + Wait + Sync>(
     context: &Context<D, G, R>,
     hand: &mut D::Hand,
     eyes: Vec<D::Eye>,
-    job: &Job<D::Call, D::Ask>,
+    job: &Job<D::UpFile, D::AskFile>,
     ring: &Ring,
     consumers: Vec<Consumer>,
 ) -> Result<Served<D>, AllocError>
     requires hand { (D.hands context.now.dict.now).ready hand.old × ((D.hands context.now.dict.now).calls hand.old < start_call_bound) }
-    requires files { AreOnDesk (D.eyes context.now.dict.now) eyes.items job.now.asks.items }
-    requires lines { length job.now.ups.items ≤ most_job_lines }
-    requires readers { HoldReaders (D.readers context.now.dict.now) job.now.ups.items }
-    requires fits { WillFit (D.hands context.now.dict.now) hand.old job.now.ups.items }
+    requires files { AreOnDesk (D.eyes context.now.dict.now) eyes.items (map D.AskFile.items job.now.asks.items) }
+    requires lines { length (D.UpFile.items job.now.ups) ≤ most_job_lines }
+    requires readers { HoldReaders (D.readers context.now.dict.now) (D.UpFile.items job.now.ups) }
+    requires fits { WillFit (D.hands context.now.dict.now) hand.old (D.UpFile.items job.now.ups) }
     requires consumers { (vec_len consumers ≤ most_workers) × All (λ c. (table c ≡ ring.now) × ((state c).calls ≡ 0)) consumers.items }
     ensures hand { (D.hands context.now.dict.now).ready hand.new × ((D.hands context.now.dict.now).calls hand.new < call_bound) }
-    ensures updates { IfOk result (λ served. IsUpdateFileServed (D.hands context.now.dict.now) hand.old job.now.ups.items hand.new served.replies.items) }
-    ensures queries { IfOk result (λ served. AreServed (D.eyes context.now.dict.now) eyes.items (map (λ file. file.items) job.now.asks.items) served.eyes.items (map (λ file. file.items) served.answers.items)) }
+    ensures updates { IfOk result (λ served. IsUpdateFileServed (D.hands context.now.dict.now) hand.old (D.UpFile.items job.now.ups) hand.new served.replies.items) }
+    ensures queries { IfOk result (λ served. AreServed (D.eyes context.now.dict.now) eyes.items (map D.AskFile.items job.now.asks.items) served.eyes.items (map (λ file. file.items) served.answers.items)) }
 {
     let (desk, mut clerk) = Desk::new(context.alloc, eyes)?;
     let asks = job.asks.as_slice();
-    let ups = job.ups.as_slice();
     let team = team_of(context.alloc, &desk, &mut clerk, ring, consumers)?;
-    let (replies, worked) = run_both(context, hand, ups, &desk, ring, team, asks);
+    let (replies, worked) = run_both(context, hand, &job.ups, &desk, ring, team, asks);
     let replies = replies?;
     let worked = worked?;
     let mut runs = Vec::new(context.alloc);
@@ -149,7 +147,7 @@ pub fn serve<D: Dict, G: Gate + Sync, R: Threads + Wait + Sync>(
     dict: &D,
     hand: &mut D::Hand,
     eyes: Vec<D::Eye>,
-    job: &Job<D::Call, D::Ask>,
+    job: &Job<D::UpFile, D::AskFile>,
     workers: u64,
     gate: &G,
 ) -> Result<Served<D>, AllocError>
@@ -157,12 +155,12 @@ pub fn serve<D: Dict, G: Gate + Sync, R: Threads + Wait + Sync>(
     requires eyes { AreReady (D.eyes dict.now) eyes.items × AreInOrder (D.eyes dict.now) 0 eyes.items }
     requires files { (1 ≤ length job.now.asks.items) × (length job.now.asks.items ≤ most_query_files) × (length job.now.asks.items ≡ length eyes.items) }
     requires workers { (1 ≤ workers) × (workers ≤ most_workers) }
-    requires lines { line_total job.now.ups.items job.now.asks.items ≤ most_job_lines }
-    requires ranges { range_fault job.now.ups.items (map (λ file. file.items) job.now.asks.items) ≡ None }
-    requires fits { WillFit (D.hands dict.now) hand.old job.now.ups.items }
+    requires lines { line_total (D.UpFile.items job.now.ups) (map D.AskFile.items job.now.asks.items) ≤ most_job_lines }
+    requires ranges { range_fault (D.UpFile.items job.now.ups) (map D.AskFile.items job.now.asks.items) ≡ None }
+    requires fits { WillFit (D.hands dict.now) hand.old (D.UpFile.items job.now.ups) }
     ensures hand { (D.hands dict.now).ready hand.new × ((D.hands dict.now).calls hand.new < call_bound) }
-    ensures updates { IfOk result (λ served. IsUpdateFileServed (D.hands dict.now) hand.old job.now.ups.items hand.new served.replies.items) }
-    ensures queries { IfOk result (λ served. AreServed (D.eyes dict.now) eyes.items (map (λ file. file.items) job.now.asks.items) served.eyes.items (map (λ file. file.items) served.answers.items)) }
+    ensures updates { IfOk result (λ served. IsUpdateFileServed (D.hands dict.now) hand.old (D.UpFile.items job.now.ups) hand.new served.replies.items) }
+    ensures queries { IfOk result (λ served. AreServed (D.eyes dict.now) eyes.items (map D.AskFile.items job.now.asks.items) served.eyes.items (map (λ file. file.items) served.answers.items)) }
     ensures numbered { IfOk result (λ served. AreInOrder (D.eyes dict.now) 0 served.eyes.items) }
 {
     let (ring, mut producer, consumers) = Ring::new(alloc, RING_LOG, workers)?;

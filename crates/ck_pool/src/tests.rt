@@ -5,10 +5,10 @@ ghost use Rattle.ck_script.specs.Script.{said_of, holds};
 ghost use Rattle.ck_pool.specs.Limits.{most_job_lines, most_workers};
 ghost use Rattle.ck_pool.specs.Served.{line_total};
 
-use crate::{Dict, Job, Served, run_over_snap, serve};
+use crate::{Dict, Job, MapJob, Served, run_over_snap, serve};
 use ck_history::{Key, Reply, Update};
 use ck_io::OpenGate;
-use ck_script::{AskLine, Numbered, UpLine};
+use ck_script::{AskLine, Lines, Numbered, UpLine};
 use std::alloc::{AllocError, Global};
 use std::sync::Wait;
 use std::sync::atomic::{AtomicBool, AtomicU64, Ordering};
@@ -134,6 +134,10 @@ impl<W: Wait + Sync> Dict for TestDict<W> {
 
     type Answer = Option<u64>;
 
+    type UpFile = Lines<UpLine<Update<Key>>>;
+
+    type AskFile = Lines<AskLine<Key>>;
+
     type Hand = TestHand;
 
     type Eye = TestEye;
@@ -222,19 +226,19 @@ impl<W: Wait + Sync> Dict for TestDict<W> {
 }
 
 // A job of one `set` line, and of one query file of a `get` line, with a `wait` line before it or not.
-fn small_job(alloc: Global, waits: bool) -> Result<Job<Update<Key>, Key>, AllocError>
+fn small_job(alloc: Global, waits: bool) -> Result<MapJob, AllocError>
     ensures files { IfOk result (λ job. length job.asks.items ≡ 1) }
     ensures no_hold { IfOk result (λ job. holds 0 (said_of job.ups.items) ≡ []) }
-    ensures lines { IfOk result (λ job. line_total job.ups.items job.asks.items ≤ most_job_lines) }
+    ensures lines { IfOk result (λ job. line_total job.ups.items (map (λ file. file.items) job.asks.items) ≤ most_job_lines) }
     ensures ranges { IfOk result (λ job. range_fault job.ups.items (map (λ file. file.items) job.asks.items) ≡ None) }
 {
     let key = Key::new(1).unwrap();
-    let mut ups = Vec::new(alloc);
+    let mut ups = Lines::new(alloc);
     ups.push(Numbered {
         line: 1,
         what: UpLine::Call(Update::Set(key, 5)),
     })?;
-    let mut lines = Vec::new(alloc);
+    let mut lines = Lines::new(alloc);
     if waits {
         lines.push(Numbered {
             line: 1,
@@ -251,13 +255,13 @@ fn small_job(alloc: Global, waits: bool) -> Result<Job<Update<Key>, Key>, AllocE
 }
 
 // A job whose `set` line stands after a `hold` for the query of the second file. The query of the first file waits for that update.
-fn crossed_job(alloc: Global) -> Result<Job<Update<Key>, Key>, AllocError>
+fn crossed_job(alloc: Global) -> Result<MapJob, AllocError>
     ensures files { IfOk result (λ job. length job.asks.items ≡ 2) }
-    ensures lines { IfOk result (λ job. line_total job.ups.items job.asks.items ≤ most_job_lines) }
+    ensures lines { IfOk result (λ job. line_total job.ups.items (map (λ file. file.items) job.asks.items) ≤ most_job_lines) }
     ensures ranges { IfOk result (λ job. range_fault job.ups.items (map (λ file. file.items) job.asks.items) ≡ None) }
 {
     let key = Key::new(1).unwrap();
-    let mut ups = Vec::new(alloc);
+    let mut ups = Lines::new(alloc);
     ups.push(Numbered {
         line: 1,
         what: UpLine::Hold { file: 2, n: 1 },
@@ -266,7 +270,7 @@ fn crossed_job(alloc: Global) -> Result<Job<Update<Key>, Key>, AllocError>
         line: 2,
         what: UpLine::Call(Update::Set(key, 5)),
     })?;
-    let mut first = Vec::new(alloc);
+    let mut first = Lines::new(alloc);
     first.push(Numbered {
         line: 1,
         what: AskLine::Wait { n: 1 },
@@ -275,7 +279,7 @@ fn crossed_job(alloc: Global) -> Result<Job<Update<Key>, Key>, AllocError>
         line: 2,
         what: AskLine::Ask(key),
     })?;
-    let mut second = Vec::new(alloc);
+    let mut second = Lines::new(alloc);
     second.push(Numbered {
         line: 1,
         what: AskLine::Ask(key),

@@ -8,7 +8,7 @@ ghost use Rattle.ck_pool.specs.Served.{IsUpdateFileServed, LineFits, WillFit};
 use crate::context::Context;
 use crate::dict::Dict;
 use ck_io::Gate;
-use ck_script::{Numbered, UpLine};
+use ck_script::{LineList, UpLine};
 use crossbeam_utils::Backoff;
 use std::alloc::AllocError;
 use std::sync::Wait;
@@ -72,19 +72,19 @@ fn run_line<D: Dict, G: Gate, R: Wait>(
 pub fn run_updates<D: Dict, G: Gate, R: Wait>(
     context: &Context<D, G, R>,
     hand: &mut D::Hand,
-    lines: &[Numbered<UpLine<D::Call>>],
+    lines: &D::UpFile,
 ) -> Result<Vec<D::Reply>, AllocError>
     requires ready { (D.hands context.now.dict.now).ready hand.old }
-    requires calls { ((D.hands context.now.dict.now).calls hand.old < start_call_bound) × (length lines.now ≤ most_job_lines) }
-    requires readers { HoldReaders (D.readers context.now.dict.now) lines.now }
-    requires fits { WillFit (D.hands context.now.dict.now) hand.old lines.now }
+    requires calls { ((D.hands context.now.dict.now).calls hand.old < start_call_bound) × (length (D.UpFile.items lines.now) ≤ most_job_lines) }
+    requires readers { HoldReaders (D.readers context.now.dict.now) (D.UpFile.items lines.now) }
+    requires fits { WillFit (D.hands context.now.dict.now) hand.old (D.UpFile.items lines.now) }
     ensures ready { (D.hands context.now.dict.now).ready hand.new }
     ensures calls { (D.hands context.now.dict.now).calls hand.new < call_bound }
-    ensures ran { IfOk result (λ replies. IsUpdateFileServed (D.hands context.now.dict.now) hand.old lines.now hand.new replies.items) }
+    ensures ran { IfOk result (λ replies. IsUpdateFileServed (D.hands context.now.dict.now) hand.old (D.UpFile.items lines.now) hand.new replies.items) }
 {
     let mut replies = Vec::new(context.alloc);
     for i in 0..lines.len() {
-        let line = &lines[i];
+        let line = lines.get(i);
         context.gate.before(0, line.line);
         run_line(context, hand, &line.what, &mut replies)?;
     }

@@ -1,5 +1,5 @@
 //! What a worker does: it takes files by the numbers that come through the ring, and runs each to its end.
-ghost use Rattle.std.specs.Prelude.{◌≡◌, ◌+◌, ◌<◌, ◌≤◌, ◌^◌, ℕ, length, vec_len, slice_get, [], true, false, IfOk, OnOk, None, Some};
+ghost use Rattle.std.specs.Prelude.{◌≡◌, ◌+◌, ◌<◌, ◌≤◌, ◌^◌, ℕ, length, vec_len, map, slice_get, [], true, false, IfOk, OnOk, None, Some};
 ghost use Rattle.ck_run.specs.Tokens.{table};
 ghost use Rattle.ck_pool.specs.declared.query_run.QueryRun.{QueryRun};
 ghost use Rattle.ck_pool.specs.Desk.{IsClerkOf};
@@ -11,7 +11,6 @@ use crate::dict::Dict;
 use crate::query_run::{QueryRun, load_again, start};
 use ck_io::Gate;
 use ck_ring::{Consumer, Ring, Take};
-use ck_script::{AskLine, Numbered};
 use crossbeam_utils::Backoff;
 use std::alloc::AllocError;
 use std::sync::Wait;
@@ -47,19 +46,19 @@ fn take_one<D: Dict, G: Gate, R: Wait>(
     ring: &Ring,
     clerk: &mut Clerk<D::Eye>,
     consumer: &mut Consumer,
-    asks: &[Vec<Numbered<AskLine<D::Ask>>>],
+    asks: &[D::AskFile],
     runs: &mut Vec<QueryRun<D::Eye, D::Answer>>,
 ) -> Result<bool, AllocError>
     requires clerk { IsClerkOf desk.now clerk.old }
     requires ring { (table consumer.old ≡ ring.now) × MayDequeue consumer.old }
-    requires files { AreOnDesk (D.eyes context.now.dict.now) desk.now.eyes asks.now }
-    requires each { AreQueryRuns (D.eyes context.now.dict.now) desk.now.eyes asks.now runs.old.items }
+    requires files { AreOnDesk (D.eyes context.now.dict.now) desk.now.eyes (map D.AskFile.items asks.now) }
+    requires each { AreQueryRuns (D.eyes context.now.dict.now) desk.now.eyes (map D.AskFile.items asks.now) runs.old.items }
     requires all { HasRuns clerk.old runs.old.items }
     ensures clerk { IsClerkOf desk.now clerk.new × (clerk.new.known.parts ≡ clerk.old.known.parts) }
     ensures table { table consumer.new ≡ ring.now }
     ensures may { IfOk result (λ more. more ≡ true → MayDequeue consumer.new) }
     ensures empty { IfOk result (λ more. more ≡ false → FoundRingEmpty consumer.new) }
-    ensures each { OnOk result (AreQueryRuns (D.eyes context.now.dict.now) desk.now.eyes asks.now runs.new.items) }
+    ensures each { OnOk result (AreQueryRuns (D.eyes context.now.dict.now) desk.now.eyes (map D.AskFile.items asks.now) runs.new.items) }
     ensures all { OnOk result (HasRuns clerk.new runs.new.items) }
 {
     match dequeue(ring, consumer) {
@@ -83,16 +82,16 @@ fn take_all<D: Dict, G: Gate, R: Wait>(
     ring: &Ring,
     clerk: &mut Clerk<D::Eye>,
     consumer: &mut Consumer,
-    asks: &[Vec<Numbered<AskLine<D::Ask>>>],
+    asks: &[D::AskFile],
     runs: &mut Vec<QueryRun<D::Eye, D::Answer>>,
 ) -> Result<(), AllocError>
     requires clerk { IsClerkOf desk.now clerk.old × (clerk.old.known.took ≡ []) }
     requires ring { (table consumer.old ≡ ring.now) × MayDequeue consumer.old }
-    requires files { AreOnDesk (D.eyes context.now.dict.now) desk.now.eyes asks.now }
+    requires files { AreOnDesk (D.eyes context.now.dict.now) desk.now.eyes (map D.AskFile.items asks.now) }
     requires none { runs.old.items ≡ [] }
     ensures clerk { IsClerkOf desk.now clerk.new × (clerk.new.known.parts ≡ clerk.old.known.parts) }
     ensures empty { OnOk result (FoundRingEmpty consumer.new) }
-    ensures each { OnOk result (AreQueryRuns (D.eyes context.now.dict.now) desk.now.eyes asks.now runs.new.items) }
+    ensures each { OnOk result (AreQueryRuns (D.eyes context.now.dict.now) desk.now.eyes (map D.AskFile.items asks.now) runs.new.items) }
     ensures all { OnOk result (HasRuns clerk.new runs.new.items) }
 {
     for _ in context.rt.forever() {
@@ -119,14 +118,14 @@ fn all_ended<E, B>(runs: &[QueryRun<E, B>]) -> bool
 fn load_all<D: Dict, G: Gate, R: Wait>(
     context: &Context<D, G, R>,
     desk: &Desk<D::Eye>,
-    asks: &[Vec<Numbered<AskLine<D::Ask>>>],
+    asks: &[D::AskFile],
     runs: &mut Vec<QueryRun<D::Eye, D::Answer>>,
     others: &mut Vec<QueryRun<D::Eye, D::Answer>>,
 ) -> Result<(), AllocError>
-    requires files { AreOnDesk (D.eyes context.now.dict.now) desk.now.eyes asks.now }
-    requires each { AreQueryRuns (D.eyes context.now.dict.now) desk.now.eyes asks.now runs.old.items }
+    requires files { AreOnDesk (D.eyes context.now.dict.now) desk.now.eyes (map D.AskFile.items asks.now) }
+    requires each { AreQueryRuns (D.eyes context.now.dict.now) desk.now.eyes (map D.AskFile.items asks.now) runs.old.items }
     requires none { others.old.items ≡ [] }
-    ensures each { OnOk result (AreQueryRuns (D.eyes context.now.dict.now) desk.now.eyes asks.now others.new.items) }
+    ensures each { OnOk result (AreQueryRuns (D.eyes context.now.dict.now) desk.now.eyes (map D.AskFile.items asks.now) others.new.items) }
     ensures all { OnOk result ((f : ℕ) → runs_of f others.new.items ≡ runs_of f runs.old.items) }
     ensures none { OnOk result (runs.new.items ≡ []) }
 {
@@ -141,12 +140,12 @@ fn load_all<D: Dict, G: Gate, R: Wait>(
 fn finish_all<D: Dict, G: Gate, R: Wait>(
     context: &Context<D, G, R>,
     desk: &Desk<D::Eye>,
-    asks: &[Vec<Numbered<AskLine<D::Ask>>>],
+    asks: &[D::AskFile],
     runs: Vec<QueryRun<D::Eye, D::Answer>>,
 ) -> Result<Vec<QueryRun<D::Eye, D::Answer>>, AllocError>
-    requires files { AreOnDesk (D.eyes context.now.dict.now) desk.now.eyes asks.now }
-    requires each { AreQueryRuns (D.eyes context.now.dict.now) desk.now.eyes asks.now runs.items }
-    ensures each { IfOk result (λ v. AreEnded (D.eyes context.now.dict.now) desk.now.eyes asks.now v.items) }
+    requires files { AreOnDesk (D.eyes context.now.dict.now) desk.now.eyes (map D.AskFile.items asks.now) }
+    requires each { AreQueryRuns (D.eyes context.now.dict.now) desk.now.eyes (map D.AskFile.items asks.now) runs.items }
+    ensures each { IfOk result (λ v. AreEnded (D.eyes context.now.dict.now) desk.now.eyes (map D.AskFile.items asks.now) v.items) }
     ensures all { IfOk result (λ v. (f : ℕ) → runs_of f v.items ≡ runs_of f runs.items) }
 {
     let backoff = Backoff::new();
@@ -173,11 +172,11 @@ pub fn work<D: Dict, G: Gate, R: Wait>(
     desk: &Desk<D::Eye>,
     ring: &Ring,
     worker: Worker<D::Eye>,
-    asks: &[Vec<Numbered<AskLine<D::Ask>>>],
+    asks: &[D::AskFile],
 ) -> Result<Worked<D::Eye, D::Answer>, AllocError>
     requires worker { IsWorker desk.now ring.now worker }
-    requires files { AreOnDesk (D.eyes context.now.dict.now) desk.now.eyes asks.now }
-    ensures { IfOk result (IsWorked (D.eyes context.now.dict.now) desk.now.eyes asks.now desk.now) }
+    requires files { AreOnDesk (D.eyes context.now.dict.now) desk.now.eyes (map D.AskFile.items asks.now) }
+    ensures { IfOk result (IsWorked (D.eyes context.now.dict.now) desk.now.eyes (map D.AskFile.items asks.now) desk.now) }
 {
     let Worker {
         mut clerk,

@@ -1,4 +1,4 @@
-use Rattle.std.proofs.Common.{◌≡◌, ◌∙◌, ◌<◌, List, length, Some, None, ap, subst}
+use Rattle.std.proofs.Common.{◌≡◌, ◌∙◌, ◌<◌, List, length, Some, None, ap, subst, map}
 use Rattle.std.specs.Prelude.{slice_get}
 use Rattle.ck_pool.specs.declared.query_run.QueryRun.{QueryRun}
 use Rattle.ck_pool.specs.Working.{IsQueryRun}
@@ -15,7 +15,7 @@ returns-in-Some-clause-run g c =
 
 pub returns-in-Some-clause-each : goal.returns-in-Some-clause-each
 returns-in-Some-clause-each g c =
-    each_remove (λ r. IsQueryRun (g.D.Dict.eyes c.args.context.now.dict.now) c.args.desk.now.eyes c.args.asks.now r × (r.waits_at ≡ None)) c.args.runs.now.items c.remove.new.self.items c.in-Some.k c.remove.ensures.by_index.2 c.requires.each
+    each_remove (λ r. IsQueryRun (g.D.Dict.eyes c.args.context.now.dict.now) c.args.desk.now.eyes (map g.D.AskFile.LineList.items c.args.asks.now) r × (r.waits_at ≡ None)) c.args.runs.now.items c.remove.new.self.items c.in-Some.k c.remove.ensures.by_index.2 c.requires.each
 
 pub returns-in-Some-clause-rest : goal.returns-in-Some-clause-rest
 returns-in-Some-clause-rest g c =

@@ -4,7 +4,8 @@ use Rattle.std.proofs.lemmas.List.{append-nil, take_all}
 use Rattle.ck_script.specs.declared.line.Numbered.{Numbered}
 use Rattle.ck_script.specs.declared.line.AskLine.{AskLine}
 use Rattle.ck_pool.specs.Runs.{short_loads, QueriesRan}
-use Rattle.ck_pool.proofs.Running.{get_at, take_one_more, halts, goes_on}
+use Rattle.ck_pool.proofs.Running.{halts, goes_on}
+use Rattle.ck_pool.proofs.Files.{take_get}
 use Rattle.ck_pool.proofs.query_lines.run_from.Goals as goal
 
 pub loop-i-init : goal.loop-i-init
@@ -17,14 +18,14 @@ loop-i-init g c = record {
 
 pub returns-then-not-branch-clause-ran : goal.returns-then-not-branch-clause-ran
 returns-then-not-branch-clause-ran g c =
-    let lines = c.args.lines.now in
+    let lines = g.D.AskFile.LineList.items c.args.lines.now in
     let i = c.loop-i.i in
-    let line = c.index-lines-i.result in
+    let line = c.get-line.result in
     let inv = c.loop-i.invariant.ran in
     let fact : c.in_ok-run_line.field-0 ≡ false = search rules in
     let two = rw fact at c.in_ok-run_line.ensures.ran in
     let load = short_loads two.0 (two.1 ∷ []) in
-    let here : slice_get lines i ≡ Some line = get_at lines i line c.loop-i-test.true c.index-lines-i.is in (
+    let here : slice_get lines i ≡ Some line = c.get-line.ensures in (
       inv.0 ++ load,
       two.3 ∙ (ap (λ l. l ++ load) inv.1 ∙ append_assoc ((g.D.Dict.eyes c.args.context.now.dict.now).done c.args.eye.now) inv.0 load),
       halts lines c.args.next i c.args.answers.now.items c.loop-i.answers.items c.run_line.new.answers.items inv.0 two.0 two.1 line here two.2 two.5 inv.2,
@@ -32,13 +33,13 @@ returns-then-not-branch-clause-ran g c =
 
 pub loop-i-preserved : goal.loop-i-preserved
 loop-i-preserved g c =
-    let lines = c.args.lines.now in
+    let lines = g.D.AskFile.LineList.items c.args.lines.now in
     let i = c.loop-i.i in
-    let line = c.index-lines-i.result in
+    let line = c.get-line.result in
     let inv = c.loop-i.invariant.ran in
     let fact : c.in_ok-run_line.field-0 ≡ true = search rules in
     let one = rw fact at c.in_ok-run_line.ensures.ran in
-    let taken : take (i + 1) lines ≡ take i lines ++ line ∷ [] = take_one_more lines i line c.loop-i-test.true c.index-lines-i.is in
+    let taken : take (i + 1) lines ≡ take i lines ++ line ∷ [] = take_get lines i line c.get-line.ensures in
     record {
       ready = c.in_ok-run_line.ensures.ready;
       number = c.in_ok-run_line.ensures.number ∙ c.loop-i.invariant.number;
@@ -52,7 +53,7 @@ loop-i-preserved g c =
 
 pub returns-clause-ran : goal.returns-clause-ran
 returns-clause-ran g c =
-    let lines = c.args.lines.now in
+    let lines = g.D.AskFile.LineList.items c.args.lines.now in
     let i = c.loop-i.i in
     let inv = c.loop-i.invariant.ran in
     let all : take i lines ≡ lines = take_all i lines (omega (arith, c.loop-i-test.false)) in (

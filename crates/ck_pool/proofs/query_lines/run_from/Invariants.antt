@@ -10,5 +10,5 @@ invariant-loop-i g l = record {
   number : (g.D.Dict.eyes l.context.dict.now).number l.eye ≡ (g.D.Dict.eyes l.context.dict.now).number l.fn.eye;
   calls : (g.D.Dict.eyes l.context.dict.now).calls l.eye ≤ start_call_bound + 8 * l.i;
   ran : (ds : List (ReaderEvent g.row.D-Ask.Denot g.row.D-Answer.Denot)) × ((g.D.Dict.eyes l.context.dict.now).done l.eye ≡ (g.D.Dict.eyes l.context.dict.now).done l.fn.eye ++ ds)
-      × ((before : List (ReaderEvent g.row.D-Ask.Denot g.row.D-Answer.Denot)) → QueriesRan (take l.next l.lines) before l.fn.answers.items → QueriesRan (take l.i l.lines) (before ++ ds) l.answers.items);
+      × ((before : List (ReaderEvent g.row.D-Ask.Denot g.row.D-Answer.Denot)) → QueriesRan (take l.next (g.D.AskFile.LineList.items l.lines)) before l.fn.answers.items → QueriesRan (take l.i (g.D.AskFile.LineList.items l.lines)) (before ++ ds) l.answers.items);
 }

@@ -1,27 +1,25 @@
 use Rattle.std.proofs.Common.{◌≡◌, ◌+◌, ◌∙◌, [], ◌∷◌, ◌++◌, take, sym, ap, subst, append_assoc, arith}
-use Rattle.ck_script.specs.declared.line.Numbered.{Numbered}
-use Rattle.ck_script.specs.declared.line.UpLine.{UpLine}
-use Rattle.ck_pool.specs.Runs.{HoldsReader}
-use Rattle.ck_pool.proofs.Running.{updates_snoc, within_at, take_one_more, get_at}
+use Rattle.ck_pool.proofs.Running.{updates_snoc, within_at}
+use Rattle.ck_pool.proofs.Files.{take_get}
 use Rattle.ck_pool.proofs.updates.run_updates.Goals as goal
 
 pub run_line-requires-clause-reader : goal.run_line-requires-clause-reader
-run_line-requires-clause-reader g c κs within = subst (λ (l : Numbered (UpLine g.row.D-Call.Denot)). HoldsReader (g.D.Dict.readers c.args.context.now.dict.now) l.what) (sym c.index-lines-i.is) (within_at (g.D.Dict.readers c.args.context.now.dict.now) c.args.lines.now c.loop-i.i c.index-lines-i.result c.loop-i-test.true c.requires.readers)
+run_line-requires-clause-reader g c κs within = within_at (g.D.Dict.readers c.args.context.now.dict.now) (g.D.UpFile.LineList.items c.args.lines.now) c.loop-i.i c.get-line.result c.get-line.ensures c.requires.readers
 
 pub run_line-requires-clause-fits : goal.run_line-requires-clause-fits
 run_line-requires-clause-fits g c κs within =
     let inv = c.loop-i.invariant in
-    c.requires.fits c.loop-i.i c.index-lines-i.result (get_at c.args.lines.now c.loop-i.i c.index-lines-i.result c.loop-i-test.true c.index-lines-i.is) c.loop-i.hand inv.ran.0 c.loop-i.replies.items inv.ready inv.ran.1 inv.ran.2
+    c.requires.fits c.loop-i.i c.get-line.result c.get-line.ensures c.loop-i.hand inv.ran.0 c.loop-i.replies.items inv.ready inv.ran.1 inv.ran.2
 
 pub loop-i-preserved : goal.loop-i-preserved
 loop-i-preserved g c =
-    let lines = c.args.lines.now in
+    let lines = g.D.UpFile.LineList.items c.args.lines.now in
     let i = c.loop-i.i in
-    let line = c.index-lines-i.result in
+    let line = c.get-line.result in
     let before = c.loop-i.invariant.ran in
     let now = c.in_ok-run_line.ensures in
     let here = now.ran in
-    let taken : take (i + 1) lines ≡ take i lines ++ line ∷ [] = take_one_more lines i line c.loop-i-test.true c.index-lines-i.is in
+    let taken : take (i + 1) lines ≡ take i lines ++ line ∷ [] = take_get lines i line c.get-line.ensures in
     record {
       ready = now.ready;
       calls = let a = c.loop-i.invariant.calls in let b = now.calls in omega arith;

@@ -7,5 +7,5 @@ abbrev pub invariant-loop-i : goal.invariant-loop-i
 invariant-loop-i g l = record {
   ready : (g.D.Dict.hands l.context.dict.now).ready l.hand;
   calls : (g.D.Dict.hands l.context.dict.now).calls l.hand ≤ (g.D.Dict.hands l.context.dict.now).calls l.fn.hand + 8 * l.i;
-  ran : (ds : List (WriterEvent g.row.D-Call.Denot g.row.D-Reply.Denot)) × ((g.D.Dict.hands l.context.dict.now).done l.hand ≡ (g.D.Dict.hands l.context.dict.now).done l.fn.hand ++ ds) × UpdatesRan (take l.i l.lines) ds l.replies.items;
+  ran : (ds : List (WriterEvent g.row.D-Call.Denot g.row.D-Reply.Denot)) × ((g.D.Dict.hands l.context.dict.now).done l.hand ≡ (g.D.Dict.hands l.context.dict.now).done l.fn.hand ++ ds) × UpdatesRan (take l.i (g.D.UpFile.LineList.items l.lines)) ds l.replies.items;
 }

@@ -1,4 +1,4 @@
-use Rattle.std.proofs.Common.{◌≡◌}
+use Rattle.std.proofs.Common.{◌≡◌, map}
 use Rattle.ck_run.specs.Tokens.{table}
 use Rattle.ck_pool.specs.Desk.{IsClerkOf}
 use Rattle.ck_pool.specs.Working.{AreQueryRuns, HasRuns, MayDequeue}
@@ -10,6 +10,6 @@ invariant-loop g l = record {
   parts : l.clerk.known.parts ≡ l.fn.clerk.known.parts;
   ring : table l.consumer ≡ l.ring;
   may : MayDequeue l.consumer;
-  each : AreQueryRuns (g.D.Dict.eyes l.context.dict.now) l.desk.eyes l.asks l.runs.items;
+  each : AreQueryRuns (g.D.Dict.eyes l.context.dict.now) l.desk.eyes (map g.D.AskFile.LineList.items l.asks) l.runs.items;
   all : HasRuns l.clerk l.runs.items;
 }
