@@ -15,5 +15,5 @@ mod tests;
 pub use list_results::ListResults;
 pub use on_array::OnArray;
 pub use on_ht::OnHt;
-pub use over_list::run_over_list;
+pub use over_list::{ListJob, run_over_list};
 pub use over_table::run_over_table;

@@ -4,21 +4,21 @@ ghost use Rattle.ck_script.specs.Checks.{range_fault};
 ghost use Rattle.ck_pool.specs.Limits.{most_job_lines};
 ghost use Rattle.ck_pool.specs.Served.{line_total};
 
-use crate::run_over_list;
+use crate::{ListJob, run_over_list};
 use ck_history::{Edit, EditReply};
 use ck_io::OpenGate;
 use ck_pool::Job;
-use ck_script::{AskLine, Numbered, UpLine};
+use ck_script::{AskLine, Lines, Numbered, UpLine};
 use std::alloc::{AllocError, Global};
 use std::test::Fail;
 
 // The edits `add 3; add 4; drop 3; hold 1 1; commit`, beside the queries `all; wait 4; all`.
-fn held_job(alloc: Global) -> Result<Job<Edit, ()>, AllocError>
+fn held_job(alloc: Global) -> Result<ListJob, AllocError>
     ensures files { IfOk result (λ job. length job.asks.items ≡ 1) }
-    ensures lines { IfOk result (λ job. line_total job.ups.items job.asks.items ≤ most_job_lines) }
+    ensures lines { IfOk result (λ job. line_total job.ups.items (map (λ file. file.items) job.asks.items) ≤ most_job_lines) }
     ensures ranges { IfOk result (λ job. range_fault job.ups.items (map (λ file. file.items) job.asks.items) ≡ None) }
 {
-    let mut ups = Vec::new(alloc);
+    let mut ups = Lines::new(alloc);
     ups.push(Numbered {
         line: 1,
         what: UpLine::Call(Edit::Add(3)),
@@ -39,7 +39,7 @@ fn held_job(alloc: Global) -> Result<Job<Edit, ()>, AllocError>
         line: 5,
         what: UpLine::Call(Edit::Commit),
     })?;
-    let mut lines = Vec::new(alloc);
+    let mut lines = Lines::new(alloc);
     lines.push(Numbered {
         line: 1,
         what: AskLine::Ask(()),

@@ -10,6 +10,7 @@ use ck_epoch::Item;
 use ck_history::{Busy, Edit, EditReply, MOST_MEMBERS};
 use ck_pool::Dict;
 use ck_report::View;
+use ck_script::{AskLine, Lines, UpLine};
 use ck_words::Back;
 use std::alloc::{AllocError, Global};
 use std::marker::PhantomData;
@@ -69,6 +70,10 @@ impl<F: Fn(Item) -> Back + Send + Sync + Drop> Dict for OnArray<F> {
     type Ask = ();
 
     type Answer = View;
+
+    type UpFile = Lines<UpLine<Edit>>;
+
+    type AskFile = Lines<AskLine<()>>;
 
     type Hand = ArrayWriter<F>;
 

@@ -9,6 +9,7 @@ use ck_epoch::Item;
 use ck_history::{Busy, Key, Reply, Update};
 use ck_ht::{Ht, HtPass, HtWriter};
 use ck_pool::Dict;
+use ck_script::{AskLine, Lines, UpLine};
 use ck_words::Back;
 use std::alloc::{AllocError, Global};
 use std::marker::PhantomData;
@@ -71,6 +72,10 @@ impl<F: Fn(Item) -> Back + Send + Sync + Drop> Dict for OnHt<F> {
     type Ask = Key;
 
     type Answer = Option<u64>;
+
+    type UpFile = Lines<UpLine<Update<Key>>>;
+
+    type AskFile = Lines<AskLine<Key>>;
 
     type Hand = HtWriter<F>;
 

@@ -18,11 +18,15 @@ use ck_epoch::Item;
 use ck_history::Edit;
 use ck_io::Gate;
 use ck_pool::{Job, Served, serve};
+use ck_script::{AskLine, Lines, UpLine};
 use ck_words::Back;
 use std::alloc::{AllocError, Global};
 use std::marker::PhantomData;
 use std::sync::Wait;
 use std::thread::Threads;
+
+/// A job over a list, with its lines in little room.
+pub type ListJob = Job<Lines<UpLine<Edit>>, Lines<AskLine<()>>>;
 
 // Runs the job, takes the members, and closes the array: the accounts of all ends are then the parts of one run.
 fn serve_and_close<
@@ -35,7 +39,7 @@ fn serve_and_close<
     dict: OnArray<F>,
     mut hand: ArrayWriter<F>,
     passes: Vec<ArrayPass>,
-    job: &Job<Edit, ()>,
+    job: &ListJob,
     workers: u64,
     gate: &G,
 ) -> Result<ListResults, AllocError>
@@ -48,9 +52,9 @@ fn serve_and_close<
     requires readers { readers dict.array.origin ≡ length job.now.asks.items }
     requires files { (1 ≤ length job.now.asks.items) × (length job.now.asks.items ≤ most_query_files) }
     requires workers { (1 ≤ workers) × (workers ≤ most_workers) }
-    requires lines { line_total job.now.ups.items job.now.asks.items ≤ most_job_lines }
+    requires lines { line_total job.now.ups.items (map (λ file. file.items) job.now.asks.items) ≤ most_job_lines }
     requires ranges { range_fault job.now.ups.items (map (λ file. file.items) job.now.asks.items) ≡ None }
-    ensures { IfOk result (AreListResults (job_script job.now.ups.items job.now.asks.items)) }
+    ensures { IfOk result (AreListResults (job_script job.now.ups.items (map (λ file. file.items) job.now.asks.items))) }
 {
     let served = serve(rt, alloc, &dict, &mut hand, passes, job, workers, gate)?;
     let Served {
@@ -74,15 +78,15 @@ fn serve_and_close<
 pub fn run_over_list<G: Gate + Sync, R: Threads + Wait + Sync>(
     rt: &R,
     alloc: Global,
-    job: &Job<Edit, ()>,
+    job: &ListJob,
     workers: u64,
     gate: &G,
 ) -> Result<ListResults, AllocError>
     requires files { (1 ≤ length job.now.asks.items) × (length job.now.asks.items ≤ most_query_files) }
     requires workers { (1 ≤ workers) × (workers ≤ most_workers) }
-    requires lines { line_total job.now.ups.items job.now.asks.items ≤ most_job_lines }
+    requires lines { line_total job.now.ups.items (map (λ file. file.items) job.now.asks.items) ≤ most_job_lines }
     requires ranges { range_fault job.now.ups.items (map (λ file. file.items) job.now.asks.items) ≡ None }
-    ensures { IfOk result (AreListResults (job_script job.now.ups.items job.now.asks.items)) }
+    ensures { IfOk result (AreListResults (job_script job.now.ups.items (map (λ file. file.items) job.now.asks.items))) }
 {
     let readers = job.asks.len() as u64;
     let (array, hand, passes) = Array::new(alloc, readers, |item: Item| home(item))?;

@@ -16,10 +16,9 @@ ghost use Rattle.ck_jobs.specs.Room.{HasRoomThroughout};
 use crate::on_ht::OnHt;
 use crate::room::pairs_of;
 use ck_epoch::Item;
-use ck_history::{Key, Update};
 use ck_ht::{Ht, HtPass, HtWriter, home};
 use ck_io::Gate;
-use ck_pool::{Job, MapResults, Served, serve};
+use ck_pool::{MapJob, MapResults, Served, serve};
 use ck_words::Back;
 use std::alloc::{AllocError, Global};
 use std::marker::PhantomData;
@@ -37,7 +36,7 @@ fn serve_and_close<
     dict: OnHt<F>,
     mut hand: HtWriter<F>,
     passes: Vec<HtPass>,
-    job: &Job<Update<Key>, Key>,
+    job: &MapJob,
     workers: u64,
     gate: &G,
 ) -> Result<MapResults, AllocError>
@@ -51,9 +50,9 @@ fn serve_and_close<
     requires room { HasRoomThroughout dict.table.origin.config.client.client.arena_log (updates (said_of job.now.ups.items)) }
     requires files { (1 ≤ length job.now.asks.items) × (length job.now.asks.items ≤ most_query_files) }
     requires workers { (1 ≤ workers) × (workers ≤ most_workers) }
-    requires lines { line_total job.now.ups.items job.now.asks.items ≤ most_job_lines }
+    requires lines { line_total job.now.ups.items (map (λ file. file.items) job.now.asks.items) ≤ most_job_lines }
     requires ranges { range_fault job.now.ups.items (map (λ file. file.items) job.now.asks.items) ≡ None }
-    ensures { IfOk result (AreMapResults most_pairs (job_script job.now.ups.items job.now.asks.items)) }
+    ensures { IfOk result (AreMapResults most_pairs (job_script job.now.ups.items (map (λ file. file.items) job.now.asks.items))) }
 {
     let served = serve(rt, alloc, &dict, &mut hand, passes, job, workers, gate)?;
     let Served {
@@ -78,15 +77,15 @@ pub fn run_over_table<G: Gate + Sync, R: Threads + Wait + Sync>(
     rt: &R,
     alloc: Global,
     seed: u64,
-    job: &Job<Update<Key>, Key>,
+    job: &MapJob,
     workers: u64,
     gate: &G,
 ) -> Result<MapResults, AllocError>
     requires files { (1 ≤ length job.now.asks.items) × (length job.now.asks.items ≤ most_query_files) }
     requires workers { (1 ≤ workers) × (workers ≤ most_workers) }
-    requires lines { line_total job.now.ups.items job.now.asks.items ≤ most_job_lines }
+    requires lines { line_total job.now.ups.items (map (λ file. file.items) job.now.asks.items) ≤ most_job_lines }
     requires ranges { range_fault job.now.ups.items (map (λ file. file.items) job.now.asks.items) ≡ None }
-    ensures { IfOk result (AreMapResults most_pairs (job_script job.now.ups.items job.now.asks.items)) }
+    ensures { IfOk result (AreMapResults most_pairs (job_script job.now.ups.items (map (λ file. file.items) job.now.asks.items))) }
 {
     let pairs = pairs_of(&job.ups);
     let readers = job.asks.len() as u64;

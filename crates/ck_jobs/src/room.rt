@@ -5,7 +5,7 @@ ghost use Rattle.ck_htlaw.specs.Actions.{most};
 ghost use Rattle.ck_jobs.specs.Room.{brought, pairs_after};
 
 use ck_history::{Key, Update};
-use ck_script::{Numbered, UpLine};
+use ck_script::{LineList, Lines, UpLine};
 
 /// A table has at most so many pairs.
 const MOST_PAIRS: u64 = 262_144;
@@ -23,17 +23,16 @@ fn brought_key(line: &UpLine<Update<Key>>) -> Option<Key>
 
 /// A number of pairs that the map of these lines' updates never goes beyond. It is the least of three: how many `set` and `put` lines there are,
 /// the greatest key of these lines, since keys begin at 1, and how many pairs a table can have.
-pub fn pairs_of(lines: &[Numbered<UpLine<Update<Key>>>]) -> u64
-    ensures enough { (p : ℕ) → pairs_after (updates (said_of lines.now)) p ≤ result }
-    ensures by_lines { result ≤ length (brought (updates (said_of lines.now))) }
-    ensures by_keys { (greatest : ℕ) → All (λ key. key ≤ greatest) (brought (updates (said_of lines.now))) → result ≤ greatest }
+pub fn pairs_of(lines: &Lines<UpLine<Update<Key>>>) -> u64
+    ensures enough { (p : ℕ) → pairs_after (updates (said_of lines.now.items)) p ≤ result }
+    ensures by_lines { result ≤ length (brought (updates (said_of lines.now.items))) }
+    ensures by_keys { (greatest : ℕ) → All (λ key. key ≤ greatest) (brought (updates (said_of lines.now.items))) → result ≤ greatest }
     ensures by_tables { result ≤ most }
 {
     let mut pairs = 0u64;
     let mut greatest = 0u128;
     for i in 0..lines.len() {
-        let line = &lines[i];
-        if let Some(key) = brought_key(&line.what) {
+        if let Some(key) = brought_key(&lines.what(i)) {
             pairs += 1;
             greatest = greatest.max(key.get());
         }

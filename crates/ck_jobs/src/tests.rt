@@ -8,21 +8,21 @@ ghost use Rattle.ck_pool.specs.Served.{line_total};
 use crate::run_over_table;
 use ck_history::{Key, Reply, Update};
 use ck_io::OpenGate;
-use ck_pool::{Job, MapResults};
-use ck_script::{AskLine, Numbered, UpLine};
+use ck_pool::{Job, MapJob, MapResults};
+use ck_script::{AskLine, Lines, Numbered, UpLine};
 use std::alloc::{AllocError, Global};
 use std::sync::Wait;
 use std::test::Fail;
 use std::thread::Threads;
 
 // The updates `set 1 10; hold 1 1` and then this one, beside the queries `wait 1; get 1; wait 2; get 1`.
-fn held_job(alloc: Global, last: Update<Key>) -> Result<Job<Update<Key>, Key>, AllocError>
+fn held_job(alloc: Global, last: Update<Key>) -> Result<MapJob, AllocError>
     ensures files { IfOk result (λ job. length job.asks.items ≡ 1) }
-    ensures lines { IfOk result (λ job. line_total job.ups.items job.asks.items ≤ most_job_lines) }
+    ensures lines { IfOk result (λ job. line_total job.ups.items (map (λ file. file.items) job.asks.items) ≤ most_job_lines) }
     ensures ranges { IfOk result (λ job. range_fault job.ups.items (map (λ file. file.items) job.asks.items) ≡ None) }
 {
     let key = Key::new(1).unwrap();
-    let mut ups = Vec::new(alloc);
+    let mut ups = Lines::new(alloc);
     ups.push(Numbered {
         line: 1,
         what: UpLine::Call(Update::Set(key, 10)),
@@ -35,7 +35,7 @@ fn held_job(alloc: Global, last: Update<Key>) -> Result<Job<Update<Key>, Key>, A
         line: 3,
         what: UpLine::Call(last),
     })?;
-    let mut lines = Vec::new(alloc);
+    let mut lines = Lines::new(alloc);
     lines.push(Numbered {
         line: 1,
         what: AskLine::Wait { n: 1 },
@@ -58,14 +58,14 @@ fn held_job(alloc: Global, last: Update<Key>) -> Result<Job<Update<Key>, Key>, A
 }
 
 // The updates `set 80 1; set 443 2; del 80`, beside `wait 3; get 80; get 443` and `wait 3; get 443`.
-fn waiting_job(alloc: Global) -> Result<Job<Update<Key>, Key>, AllocError>
+fn waiting_job(alloc: Global) -> Result<MapJob, AllocError>
     ensures files { IfOk result (λ job. length job.asks.items ≡ 2) }
-    ensures lines { IfOk result (λ job. line_total job.ups.items job.asks.items ≤ most_job_lines) }
+    ensures lines { IfOk result (λ job. line_total job.ups.items (map (λ file. file.items) job.asks.items) ≤ most_job_lines) }
     ensures ranges { IfOk result (λ job. range_fault job.ups.items (map (λ file. file.items) job.asks.items) ≡ None) }
 {
     let low = Key::new(80).unwrap();
     let high = Key::new(443).unwrap();
-    let mut ups = Vec::new(alloc);
+    let mut ups = Lines::new(alloc);
     ups.push(Numbered {
         line: 1,
         what: UpLine::Call(Update::Set(low, 1)),
@@ -78,7 +78,7 @@ fn waiting_job(alloc: Global) -> Result<Job<Update<Key>, Key>, AllocError>
         line: 3,
         what: UpLine::Call(Update::Del(low)),
     })?;
-    let mut first = Vec::new(alloc);
+    let mut first = Lines::new(alloc);
     first.push(Numbered {
         line: 1,
         what: AskLine::Wait { n: 3 },
@@ -91,7 +91,7 @@ fn waiting_job(alloc: Global) -> Result<Job<Update<Key>, Key>, AllocError>
         line: 3,
         what: AskLine::Ask(high),
     })?;
-    let mut second = Vec::new(alloc);
+    let mut second = Lines::new(alloc);
     second.push(Numbered {
         line: 1,
         what: AskLine::Wait { n: 3 },

@@ -1,7 +1,4 @@
-use Rattle.std.proofs.Common.{◌≡◌, ◌≤◌, ℕ, List, subst, arith}
-use Rattle.ck_script.specs.declared.line.Numbered.{Numbered}
-use Rattle.ck_script.specs.declared.line.UpLine.{UpLine}
-use Rattle.ck_history.specs.declared.update.Update.{Update}
+use Rattle.std.proofs.Common.{◌≤◌, ℕ, arith}
 use Rattle.ck_script.specs.Script.{said_of, updates}
 use Rattle.ck_ht.specs.Room.{HasRoomFor}
 use Rattle.ck_jobs.specs.Room.{pairs_after}
@@ -12,5 +9,4 @@ less_room log few many le room = omega arith
 
 pub serve_and_close-requires-clause-room : goal.serve_and_close-requires-clause-room
 serve_and_close-requires-clause-room g c κs within p =
-    let enough = subst (λ (lines : List (Numbered (UpLine (Update ℕ)))). pairs_after (updates (said_of lines)) p ≤ c.pairs_of-pairs.result) c.deref.ensures.value (c.pairs_of-pairs.ensures.enough p) in
-    less_room c.in_ok-table.table.origin.config.client.client.arena_log (pairs_after (updates (said_of c.args.job.now.ups.items)) p) c.pairs_of-pairs.result enough c.in_ok-table.ensures.room
+    less_room c.in_ok-table.table.origin.config.client.client.arena_log (pairs_after (updates (said_of c.args.job.now.ups.items)) p) c.pairs_of-pairs.result (c.pairs_of-pairs.ensures.enough p) c.in_ok-table.ensures.room

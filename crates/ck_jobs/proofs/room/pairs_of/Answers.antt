@@ -10,11 +10,11 @@ use Rattle.ck_jobs.proofs.room.pairs_of.Goals as goal
 
 pub loop-i-preserved : goal.loop-i-preserved
 loop-i-preserved c =
-    let lines = c.args.lines.now in
-    let line = c.index-lines-i.result in
+    let lines = c.args.lines.now.items in
+    let line = c.what.result in
     let before = updates (said_of (take c.loop-i.i lines)) in
-    let more : brought (updates (said_of (take (c.loop-i.i + 1) lines))) ≡ brought before ++ brought (updates (line.what ∷ [])) =
-    ap brought (updates-take lines c.loop-i.i line c.loop-i-test.true c.index-lines-i.is) ∙ brought-append before (updates (line.what ∷ [])) in
+    let more : brought (updates (said_of (take (c.loop-i.i + 1) lines))) ≡ brought before ++ brought (updates (line ∷ [])) =
+    ap brought (updates-take lines c.loop-i.i line c.what.ensures) ∙ brought-append before (updates (line ∷ [])) in
     let counted = c.loop-i.invariant.counted in
     let few = c.loop-i.invariant.few in
     elim c.match-brought_key.branch [
@@ -35,7 +35,7 @@ loop-i-preserved c =
 
 pub returns-clause-enough : goal.returns-clause-enough
 returns-clause-enough c p =
-    let lines = c.args.lines.now in
+    let lines = c.args.lines.now.items in
     let all : take c.loop-i.i lines ≡ lines = take_all c.loop-i.i lines (let done = c.loop-i-test.false in omega arith) in
     let counted = rw all at c.loop-i.invariant.counted in
     let bounds = bounded_after most c.loop-i.greatest (updates (said_of lines)) counted.between p in

@@ -6,6 +6,6 @@ use Rattle.ck_jobs.proofs.room.pairs_of.Given as goal
 
 abbrev pub invariant-loop-i : goal.invariant-loop-i
 invariant-loop-i l = record {
-  counted : IsCounted (brought (updates (said_of (take l.i l.lines)))) l.pairs l.greatest;
+  counted : IsCounted (brought (updates (said_of (take l.i l.lines.items)))) l.pairs l.greatest;
   few : l.pairs ≤ l.i;
 }
