@@ -1,6 +1,5 @@
 -- What files within the limits say is within the limits of a job.
-use Rattle.std.proofs.Common.{◌≡◌, ℕ, ◌+◌, ◌≤◌, List, [], ◌∷◌, length, map, sum_by, Vec, inl, inr, decimal, refl, ap, arith}
-use Rattle.std.specs.declared.alloc.Global.{Global}
+use Rattle.std.proofs.Common.{◌≡◌, ℕ, ◌+◌, ◌≤◌, List, [], ◌∷◌, length, sum_by, inl, inr, refl, ap, arith}
 use Rattle.std.proofs.lemmas.List.Sums.{sum_by-cons}
 use Rattle.ck_script.specs.declared.line.Numbered.{Numbered}
 use Rattle.ck_script.specs.declared.line.UpLine.{UpLine}
@@ -19,19 +18,19 @@ said_short IsTaken spelling n (line ∷ ls) said (inl (silent, later)) = let h =
 said_short IsTaken spelling n (line ∷ ls) said (inr (what, more, is, says, later)) = let h = said_short IsTaken spelling (n + 1) ls more later in let e = ap length is in omega arith
 
 module _ {C Q : Type 0} (kind : Kind C Q) where
-  queries_short : (files : List (List ℕ)) (asks : List (Vec (Numbered (AskLine Q)) Global)) → AsksSay kind.queries.is_line kind.queries.words files (map (λ file. file.items) asks) → (length asks ≡ length files) × (lines_of asks ≤ sum_by line_count files)
+  queries_short : (files : List (List ℕ)) (asks : List (List (Numbered (AskLine Q)))) → AsksSay kind.queries.is_line kind.queries.words files asks → (length asks ≡ length files) × (lines_of asks ≤ sum_by line_count files)
   queries_short [] [] said = (refl, omega arith)
   queries_short [] (a ∷ asks) said = absurd said
   queries_short (bytes ∷ files) [] said = absurd said
   queries_short (bytes ∷ files) (a ∷ asks) said =
-      let one : length a.items ≤ line_count bytes = said_short kind.queries.is_line kind.queries.words 1 (lines bytes) a.items said.0 in
+      let one : length a ≤ line_count bytes = said_short kind.queries.is_line kind.queries.words 1 (lines bytes) a said.0 in
       let rest = queries_short files asks said.1 in
       let long = rest.0 in
       let short = rest.1 in
       let sum = sum_by-cons line_count bytes files in
       (omega arith, omega (arith, one, short, sum))
 
-  pub job_short : (update_file : List ℕ) (query_files : List (List ℕ)) (ups : List (Numbered (UpLine C))) (asks : List (Vec (Numbered (AskLine Q)) Global)) → AreWithin (update_file ∷ query_files) → FileSays kind.updates.is_line kind.updates.words update_file ups → AsksSay kind.queries.is_line kind.queries.words query_files (map (λ file. file.items) asks)
+  pub job_short : (update_file : List ℕ) (query_files : List (List ℕ)) (ups : List (Numbered (UpLine C))) (asks : List (List (Numbered (AskLine Q)))) → AreWithin (update_file ∷ query_files) → FileSays kind.updates.is_line kind.updates.words update_file ups → AsksSay kind.queries.is_line kind.queries.words query_files asks
       → (length asks ≡ length query_files) × (line_total ups asks ≤ 4000000)
   job_short update_file query_files ups asks within ups_said asks_said =
       let one : length ups ≤ line_count update_file = said_short kind.updates.is_line kind.updates.words 1 (lines update_file) ups ups_said in

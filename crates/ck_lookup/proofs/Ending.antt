@@ -1,6 +1,5 @@
 -- From what each part of a run says to why the run ends as it does.
-use Rattle.std.proofs.Common.{◌≡◌, ℕ, zero, suc, ◌+◌, ◌≤◌, List, [], ◌∷◌, ◌++◌, map, take, Option, Some, None, Result, Ok, Err, IfOk, IfErr, OnOk, refl, ap, subst, ◌∙◌, ◌⊎◌, Vec, arith, inl, inr, decimal}
-use Rattle.std.specs.declared.alloc.Global.{Global}
+use Rattle.std.proofs.Common.{◌≡◌, ℕ, zero, suc, ◌+◌, ◌≤◌, List, [], ◌∷◌, ◌++◌, map, take, Option, Some, None, Result, Ok, Err, IfOk, IfErr, OnOk, refl, ap, subst, ◌∙◌, ◌⊎◌, arith, inl, inr, decimal}
 use Rattle.std.specs.List.{AllByRecursion}
 use Rattle.std.proofs.lemmas.List.Sums.{sum_by-take-le}
 use Rattle.std.specs.Prelude.{length, slice_get}
@@ -104,7 +103,7 @@ module _ {C Q : Type 0} (kind : Kind C Q) (held : List ℕ → Option (List ℕ)
   memory_ends ups asks before after Fetched r fetched (inr (text, is, front)) = inr (fetched, (text, runnable_report ups asks text r is, front))
 
   -- what 1 to 64 query files say may begin
-  pub runnable_begins : (ups : List (Numbered (UpLine C))) (asks : List (Vec (Numbered (AskLine Q)) Global)) → AreRunnable kind held names ups (map (λ file. file.items) asks) → 2 ≤ length names → length names ≤ 65 → MayBegin ups asks
+  pub runnable_begins : (ups : List (Numbered (UpLine C))) (asks : List (List (Numbered (AskLine Q)))) → AreRunnable kind held names ups asks → 2 ≤ length names → length names ≤ 65 → MayBegin ups asks
   runnable_begins ups asks r some few =
       let long : length (r.update_file ∷ r.query_files) ≡ length names = read_long held names (r.update_file ∷ r.query_files) r.read in
       begins kind r.update_file r.query_files ups asks r.within r.said (omega (arith, long, some)) (omega (arith, long, few))

@@ -30,7 +30,7 @@ abbrev Ups : Type 0
 Ups = List (Numbered (UpLine (Update ℕ)))
 
 abbrev Asks : Type 0
-Asks = List (Vec (Numbered (AskLine ℕ)) Global)
+Asks = List (List (Numbered (AskLine ℕ)))
 
 -- lines that are all updates
 updates_called : (us : List (Update ℕ)) → updates (map (λ u. Call u) us) ≡ us
@@ -109,28 +109,23 @@ module _ (seed count : ℕ) where
       let by_queries : List (ℕ × ℕ) → Script ℕ = λ qs. record { updates = us; files = bounded (length us) [] 1 1 qs ∷ [] } in
       ap by_updates (updates_called us) ∙ (ap by_holds (holds_called 0 us) ∙ ap by_queries waited)
 
-  module _ (ups : Ups) (asks : Asks) (ups_are : ups ≡ numbered 1 (lines_of_updates seed count)) (asks_are : map (λ file. file.items) asks ≡ numbered 1 (lines_of_queries seed count) ∷ []) where
+  module _ (ups : Ups) (asks : Asks) (ups_are : ups ≡ numbered 1 (lines_of_updates seed count)) (asks_are : asks ≡ numbered 1 (lines_of_queries seed count) ∷ []) where
     script_is : job_script ups asks ≡ plain
     script_is =
-        let items : List (List (Numbered (AskLine ℕ))) = map (λ file. file.items) asks in
-        let by_ups : Ups → Script ℕ = λ u. script_of (said_of u) (map said_of items) in
-        let by_asks : List (List (Numbered (AskLine ℕ))) → Script ℕ = λ fs. script_of (said_of (numbered 1 (lines_of_updates seed count))) (map said_of fs) in
+        let by_ups : Ups → Script ℕ = λ u. script_of (said_of u) (map said_of asks) in
+        let by_asks : Asks → Script ℕ = λ fs. script_of (said_of (numbered 1 (lines_of_updates seed count))) (map said_of fs) in
         let by_said : List (UpLine (Update ℕ)) → Script ℕ = λ u. script_of u (said_of (numbered 1 (lines_of_queries seed count)) ∷ []) in
         let by_asked : List (AskLine ℕ) → Script ℕ = λ q. script_of (lines_of_updates seed count) (q ∷ []) in
         ap by_ups ups_are ∙ (ap by_asks asks_are ∙ (ap by_said (said_numbered 1 (lines_of_updates seed count)) ∙ (ap by_asked (said_numbered 1 (lines_of_queries seed count)) ∙ script_plain)))
 
-    -- the job has one query file
-    pub one_file : length asks ≡ 1
-    one_file = sym (length-map asks (λ file. file.items)) ∙ ap length asks_are
-
-    -- and few lines
+    -- the job has few lines
     pub few_lines : count ≤ 999999 → line_total ups asks ≤ 4000000
     few_lines few = go asks asks_are
       where
-        go : (files : Asks) → map (λ file. file.items) files ≡ numbered 1 (lines_of_queries seed count) ∷ [] → line_total ups files ≤ 4000000
+        go : (files : Asks) → files ≡ numbered 1 (lines_of_queries seed count) ∷ [] → line_total ups files ≤ 4000000
         go [] e = absurd (cc)
         go (file ∷ []) e =
-            let here : file.items ≡ numbered 1 (lines_of_queries seed count) = cc in
+            let here : file ≡ numbered 1 (lines_of_queries seed count) = cc in
             let a = ap length ups_are ∙ (length_numbered 1 (lines_of_updates seed count) ∙ (length-map us (λ u. Call u) ∙ made_long)) in
             let b = ap length here ∙ length_numbered 1 (lines_of_queries seed count) in
             let d : length (map (λ k. Ask k) ks) ≡ count = length-map ks (λ k. Ask k) ∙ asked_long in
@@ -138,9 +133,9 @@ module _ (seed count : ℕ) where
         go (file ∷ other ∷ files) e = absurd (cc)
 
     -- none is beyond what there is
-    pub in_range : range_fault ups (map (λ file. file.items) asks) ≡ None
+    pub in_range : range_fault ups asks ≡ None
     in_range =
-        ap (λ u. range_fault u (map (λ file. file.items) asks)) ups_are ∙ (ap (range_fault (numbered 1 (lines_of_updates seed count))) asks_are ∙ whole)
+        ap (λ u. range_fault u asks) ups_are ∙ (ap (range_fault (numbered 1 (lines_of_updates seed count))) asks_are ∙ whole)
       where
         waits : length (updates (said_of (numbered 1 (lines_of_updates seed count)))) ≡ count
         waits = ap (λ u. length (updates u)) (said_numbered 1 (lines_of_updates seed count)) ∙ (ap length (updates_called us) ∙ made_long)

@@ -55,7 +55,7 @@ module _ {C Q : Type 0} (kind : Kind C Q) where
   none_beyond ups asks none = refused_none Beyond (range_fault ups asks) (none_of_two _ _ none).0
 
   -- what 1 to 64 query files within the limits say may begin
-  pub begins : (update_file : List ℕ) (query_files : List (List ℕ)) (ups : List (Numbered (UpLine C))) (asks : List (Vec (Numbered (AskLine Q)) Global)) → AreWithin (update_file ∷ query_files) → AreSaid kind update_file query_files ups (map (λ file. file.items) asks)
+  pub begins : (update_file : List ℕ) (query_files : List (List ℕ)) (ups : List (Numbered (UpLine C))) (asks : List (List (Numbered (AskLine Q)))) → AreWithin (update_file ∷ query_files) → AreSaid kind update_file query_files ups asks
       → 1 ≤ length query_files → length query_files ≤ 64 → MayBegin ups asks
   begins update_file query_files ups asks within said some few =
       let short = job_short kind update_file query_files ups asks within said.updates_said said.queries_said in
@@ -63,7 +63,7 @@ module _ {C Q : Type 0} (kind : Kind C Q) where
         some_file = subst (λ (n : ℕ). 1 ≤ n) (sym short.0) some;
         few_files = subst (λ (n : ℕ). n ≤ 64) (sym short.0) few;
         short = short.1;
-        in_range = none_beyond ups (map (λ file. file.items) asks) said.checked;
+        in_range = none_beyond ups asks said.checked;
       }
 
 -- there are answers of each file
@@ -77,25 +77,21 @@ pub map_long : {X Y : Type 0} (g : X → Y) (xs : List X) → length (map g xs) 
 map_long g [] = refl
 map_long g (x ∷ xs) = let h = map_long g xs in omega arith
 
-module _ (ups : List (Numbered (UpLine (Update ℕ)))) (asks : List (Vec (Numbered (AskLine ℕ)) Global)) (x : MapResults) (answered : AreMapResults capacity (job_script ups asks) x) where
+module _ (ups : List (Numbered (UpLine (Update ℕ)))) (asks : List (List (Numbered (AskLine ℕ)))) (x : MapResults) (answered : AreMapResults capacity (job_script ups asks) x) where
   pub answered_long : length asks ≡ length x.answers.items
   answered_long =
       let us = updates (said_of ups) in
-      let files = map said_of (map (λ file. file.items) asks) in
-      let long = legal_long (length us) (answer_after nat_cmp capacity us) (holds 0 (said_of ups)) 1 files (map (λ file. file.items) x.answers.items) answered.legal in
-      let a : length files ≡ length (map (λ (file : Vec (Numbered (AskLine ℕ)) Global). file.items) asks) = map_long said_of (map (λ file. file.items) asks) in
-      let b : length (map (λ (file : Vec (Numbered (AskLine ℕ)) Global). file.items) asks) ≡ length asks = map_long (λ file. file.items) asks in
-      let d : length (map (λ (file : Vec (Option ℕ) Global). file.items) x.answers.items) ≡ length x.answers.items = map_long (λ file. file.items) x.answers.items in
-      sym b ∙ (sym a ∙ (long ∙ d))
+      let long = legal_long (length us) (answer_after nat_cmp capacity us) (holds 0 (said_of ups)) 1 (map said_of asks) (map (λ file. file.items) x.answers.items) answered.legal in
+      sym (map_long said_of asks) ∙ (long ∙ map_long (λ file. file.items) x.answers.items)
 
   -- the text of what a job came to
   pub text_is : (rs : List Reply) (found : List (List (Asked ℕ))) (ps : List (ℕ × ℕ)) → rs ≡ x.replies.items → ps ≡ x.pairs.items
-      → found ≡ asked_of_files (map said_of (map (λ file. file.items) asks)) (map (λ file. file.items) x.answers.items)
-      → IsTextOf table_kind (script_of (said_of ups) (map said_of (map (λ file. file.items) asks))) (report_text decimal rs found ps)
+      → found ≡ asked_of_files (map said_of asks) (map (λ file. file.items) x.answers.items)
+      → IsTextOf table_kind (script_of (said_of ups) (map said_of asks)) (report_text decimal rs found ps)
   text_is rs found ps r p a =
       let us = updates (said_of ups) in
       let answers = map (λ (file : Vec (Option ℕ) Global). file.items) x.answers.items in
-      let files = map said_of (map (λ (file : Vec (Numbered (AskLine ℕ)) Global). file.items) asks) in
+      let files = map said_of asks in
       let same : found ≡ all_asked (bounded_files (length us) (holds 0 (said_of ups)) 1 files) answers = a ∙ sym (files_as (length us) 1 (holds 0 (said_of ups)) files answers) in
       record {
         answers = answers;
@@ -107,7 +103,7 @@ module _ (ups : List (Numbered (UpLine (Update ℕ)))) (asks : List (Vec (Number
       }
 
 -- the text of what a job over a list came to
-pub list_text_is : (ups : List (Numbered (UpLine Edit))) (asks : List (Vec (Numbered (AskLine (Unit {0}))) Global)) (x : ListResults) → AreListResults (job_script ups asks) x
+pub list_text_is : (ups : List (Numbered (UpLine Edit))) (asks : List (List (Numbered (AskLine (Unit {0}))))) (x : ListResults) → AreListResults (job_script ups asks) x
     → (rs : List EditReply) (found : List (List (List ℕ))) (ms : List ℕ) → rs ≡ x.replies.items → found ≡ map (λ file. file.items) x.answers.items → ms ≡ x.members.items → IsTextOf list_kind (job_script ups asks) (list_text rs found ms)
 list_text_is ups asks x answered rs found ms r a m =
     let us = (job_script ups asks).updates in

@@ -1,5 +1,5 @@
 -- Why a run ends as it does.
-use Rattle.std.specs.Prelude.{◌≡◌, ℕ, zero, suc, ◌+◌, ◌<◌, ◌⊎◌, List, [], ◌∷◌, ◌++◌, length, map, take, Option, Some, None, IfSome, slice_get, decimal}
+use Rattle.std.specs.Prelude.{◌≡◌, ℕ, zero, suc, ◌+◌, ◌<◌, ◌⊎◌, List, [], ◌∷◌, ◌++◌, length, map, take, Option, Some, None, IfSome, slice_get}
 use Rattle.std.specs.Option.{option_map, option_or}
 use Rattle.ck_io.specs.Faults.{Rose}
 use Rattle.ck_io.specs.Sink.{appended, AppendsPrefix}

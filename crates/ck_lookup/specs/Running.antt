@@ -1,6 +1,5 @@
 -- What the parts of a run make of its files.
-use Rattle.std.specs.Prelude.{◌≡◌, ℕ, suc, ◌<◌, ◌≤◌, ◌⊎◌, List, [], ◌∷◌, length, map, Some, None, Option, Vec, slice_get, true, false, decimal}
-use Rattle.std.specs.declared.alloc.Global.{Global}
+use Rattle.std.specs.Prelude.{◌≡◌, ℕ, suc, ◌<◌, ◌≤◌, ◌⊎◌, List, ◌∷◌, length, Some, None, Option, slice_get, true, false, decimal}
 use Rattle.std.specs.Ordering.{nat_cmp}
 use Rattle.ck_io.specs.Faults.{Rose}
 use Rattle.ck_io.specs.Sink.{appended, AppendsPrefix}
@@ -30,11 +29,11 @@ use Rattle.ck_lookup.specs.Judging.{verdict_text, IsBadReport, HasBadReport, Has
 use Rattle.ck_lookup.specs.Causes.{IsFaultOf, IsLawful, IsBadScript, HasBadScript, IsReadFault, IsTooLarge, AreRead, AreSaid}
 
 -- A job that a run may begin: there are 1 to 64 query files, the lines are within the limits, and none is beyond what there is
-pub record MayBegin {C Q : Type 0} (ups : List (Numbered (UpLine C))) (asks : List (Vec (Numbered (AskLine Q)) Global)) : Type 0 where
+pub record MayBegin {C Q : Type 0} (ups : List (Numbered (UpLine C))) (asks : List (List (Numbered (AskLine Q)))) : Type 0 where
   pub some_file : 1 ≤ length asks
   pub few_files : length asks ≤ 64
   pub short : line_total ups asks ≤ 4000000
-  pub in_range : range_fault ups (map (λ file. file.items) asks) ≡ None
+  pub in_range : range_fault ups asks ≡ None
 
 -- the outcome of a script that wasn't read
 abbrev pub refusal_of : ℕ → ScriptError → Outcome

@@ -21,8 +21,8 @@ pub fn job_of<T: RunKind, R: Threads + Sync, S: Shelf>(
     updates: &str,
     queries: &[&str],
     shelf: &mut S,
-) -> Result<Job<T::Call, T::Ask>, Outcome>
-    ensures runnable { IfOk result (λ job. AreRunnable T.kind (S.held shelf.old) (updates.now ∷ map (λ name. name.now) queries.now) job.ups.items (map (λ file. file.items) job.asks.items)) }
+) -> Result<Job<T::UpFile, T::AskFile>, Outcome>
+    ensures runnable { IfOk result (λ job. AreRunnable T.kind (S.held shelf.old) (updates.now ∷ map (λ name. name.now) queries.now) (T.UpFile.items job.ups) (map T.AskFile.items job.asks.items)) }
     ensures fetched { OnOk result (S.faults shelf.new ≡ S.faults shelf.old) }
     ensures refused { IfErr result (IsRefusedRun T.kind (S.held shelf.old) (updates.now ∷ map (λ name. name.now) queries.now) (S.faults shelf.old) (S.faults shelf.new)) }
     ensures held { S.held shelf.new ≡ S.held shelf.old }
@@ -38,10 +38,10 @@ fn job_of_files<T: RunKind, R: Threads + Sync>(
     alloc: Global,
     tasks: u64,
     files: &[Vec<u8>],
-) -> Result<Job<T::Call, T::Ask>, Outcome>
+) -> Result<Job<T::UpFile, T::AskFile>, Outcome>
     requires { 0 < length files.now }
     ensures said { (update_file : List ℕ) (query_files : List (List ℕ)) → map (λ file. file.items) files.now ≡ update_file ∷ query_files
-        → IfOk result (λ job. AreSaid T.kind update_file query_files job.ups.items (map (λ file. file.items) job.asks.items)) }
+        → IfOk result (λ job. AreSaid T.kind update_file query_files (T.UpFile.items job.ups) (map T.AskFile.items job.asks.items)) }
     ensures refused { (update_file : List ℕ) (query_files : List (List ℕ)) → map (λ file. file.items) files.now ≡ update_file ∷ query_files
         → IfErr result (IsRefusedScript T.kind update_file query_files) }
 {

@@ -14,11 +14,10 @@ use crate::kinds::RunKind;
 use crate::outcome::Outcome;
 use ck_history::Edit;
 use ck_io::{Gate, Shelf, Sink};
-use ck_jobs::run_over_list;
-use ck_pool::Job;
+use ck_jobs::{ListJob, run_over_list};
 use ck_report::{PutError, put_list_report};
 use ck_script::{
-    AskLine, Numbered, RangeFault, ScriptError, UpLine, check_views, scan_edits, scan_views,
+    AskLine, Lines, RangeFault, ScriptError, UpLine, check_views, scan_edits, scan_views,
 };
 use std::alloc::Global;
 use std::sync::Wait;
@@ -35,23 +34,27 @@ impl RunKind for OverList {
 
     type Ask = ();
 
+    type UpFile = Lines<UpLine<Edit>>;
+
+    type AskFile = Lines<AskLine<()>>;
+
     ghost kind = { list_kind };
 
     fn scan_updates(
         alloc: Global,
         bytes: &[u8],
-    ) -> Result<(Vec<Numbered<UpLine<Edit>>>, bool), ScriptError> {
+    ) -> Result<(Lines<UpLine<Edit>>, bool), ScriptError> {
         scan_edits(alloc, bytes)
     }
 
     fn scan_queries(
         alloc: Global,
         bytes: &[u8],
-    ) -> Result<(Vec<Numbered<AskLine<()>>>, bool), ScriptError> {
+    ) -> Result<(Lines<AskLine<()>>, bool), ScriptError> {
         scan_views(alloc, bytes)
     }
 
-    fn surplus(asks: &[Vec<Numbered<AskLine<()>>>]) -> Option<RangeFault> {
+    fn surplus(asks: &[Lines<AskLine<()>>]) -> Option<RangeFault> {
         check_views(asks)
     }
 }
@@ -88,15 +91,15 @@ pub fn run_list<R: Threads + Wait + Sync, S: Shelf, K: Sink, G: Gate + Sync>(
 fn put_list<R: Threads + Wait + Sync, K: Sink, G: Gate + Sync>(
     rt: &R,
     alloc: Global,
-    job: &Job<Edit, ()>,
+    job: &ListJob,
     workers: u64,
     sink: &mut K,
     gate: &G,
 ) -> Result<(), PutError>
     requires workers { (1 ≤ workers) × (workers ≤ 16) }
-    requires may { MayBegin job.now.ups.items job.now.asks.items }
-    ensures all { OnOk result ((text : List ℕ) × IsTextOf list_kind (job_script job.now.ups.items job.now.asks.items) text × (K.taken sink.new ≡ appended (K.taken sink.old) text)) }
-    ensures prefix { IfErr result (HasPut list_kind (job_script job.now.ups.items job.now.asks.items) (K.taken sink.old) (K.taken sink.new)) }
+    requires may { MayBegin job.now.ups.items (map (λ file. file.items) job.now.asks.items) }
+    ensures all { OnOk result ((text : List ℕ) × IsTextOf list_kind (job_script job.now.ups.items (map (λ file. file.items) job.now.asks.items)) text × (K.taken sink.new ≡ appended (K.taken sink.old) text)) }
+    ensures prefix { IfErr result (HasPut list_kind (job_script job.now.ups.items (map (λ file. file.items) job.now.asks.items)) (K.taken sink.old) (K.taken sink.new)) }
     ensures cause { IfErr result (λ error. IsPutCause error (K.faults sink.old) (K.faults sink.new)) }
     ensures lasting { K.faults sink.old ≤ K.faults sink.new }
 {

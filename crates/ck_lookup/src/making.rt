@@ -8,8 +8,8 @@ use ck_gen::{Summary, queries, summary_text, updates};
 use ck_history::{Key, Update};
 use ck_io::{OpenGate, Sink, put_all};
 use ck_jobs::run_over_table;
-use ck_pool::Job;
-use ck_script::{AskLine, Numbered, ScriptError, UpLine, read_queries, read_updates};
+use ck_pool::{Job, MapJob};
+use ck_script::{AskLine, Lines, ScriptError, UpLine, read_queries, read_updates};
 use std::alloc::{AllocError, Global};
 use std::sync::Wait;
 use std::thread::Threads;
@@ -60,7 +60,7 @@ pub fn run_make<R: Threads + Wait + Sync, K: Sink>(
 }
 
 // The job of the generated files.
-fn generated_job(alloc: Global, seed: u64, lines: u64) -> Result<Job<Update<Key>, Key>, AllocError>
+fn generated_job(alloc: Global, seed: u64, lines: u64) -> Result<MapJob, AllocError>
     requires { lines ≤ 999999 }
     ensures updates { IfOk result (λ job. job.ups.items ≡ numbered 1 (lines_of_updates seed lines)) }
     ensures queries { IfOk result (λ job. map (λ file. file.items) job.asks.items ≡ numbered 1 (lines_of_queries seed lines) ∷ []) }
@@ -77,7 +77,7 @@ fn generated_updates(
     alloc: Global,
     seed: u64,
     lines: u64,
-) -> Result<Vec<Numbered<UpLine<Update<Key>>>>, AllocError>
+) -> Result<Lines<UpLine<Update<Key>>>, AllocError>
     requires { lines ≤ 999999 }
     ensures { IfOk result (λ ups. ups.items ≡ numbered 1 (lines_of_updates seed lines)) }
 {
@@ -95,7 +95,7 @@ fn generated_queries(
     alloc: Global,
     seed: u64,
     lines: u64,
-) -> Result<Vec<Numbered<AskLine<Key>>>, AllocError>
+) -> Result<Lines<AskLine<Key>>, AllocError>
     requires { lines ≤ 999999 }
     ensures { IfOk result (λ asks. asks.items ≡ numbered 1 (lines_of_queries seed lines)) }
 {

@@ -10,7 +10,7 @@ use crate::kinds::RunKind;
 use crate::outcome::Outcome;
 use ck_pool::Job;
 use ck_script::{
-    AskLine, Numbered, RangeFault, ScriptError, UpLine, Why, check_circles, check_ranges,
+    AskLine, LineList, RangeFault, ScriptError, UpLine, Why, check_circles, check_ranges,
 };
 use std::alloc::Global;
 use std::thread;
@@ -24,8 +24,8 @@ pub fn read_scripts<T: RunKind>(
     alloc: Global,
     update_file: &[u8],
     query_files: &[Vec<u8>],
-) -> Result<Job<T::Call, T::Ask>, Outcome>
-    ensures said { IfOk result (λ job. AreSaid T.kind update_file.now (map (λ file. file.items) query_files.now) job.ups.items (map (λ file. file.items) job.asks.items)) }
+) -> Result<Job<T::UpFile, T::AskFile>, Outcome>
+    ensures said { IfOk result (λ job. AreSaid T.kind update_file.now (map (λ file. file.items) query_files.now) (T.UpFile.items job.ups) (map T.AskFile.items job.asks.items)) }
     ensures refused { IfErr result (IsRefusedScript T.kind update_file.now (map (λ file. file.items) query_files.now)) }
 {
     let updates = updates_in::<T>(alloc, update_file);
@@ -40,18 +40,18 @@ pub fn read_scripts_by<T: RunKind, R: Threads + Sync>(
     tasks: u64,
     update_file: &[u8],
     query_files: &[Vec<u8>],
-) -> Result<Job<T::Call, T::Ask>, Outcome>
-    ensures said { IfOk result (λ job. AreSaid T.kind update_file.now (map (λ file. file.items) query_files.now) job.ups.items (map (λ file. file.items) job.asks.items)) }
+) -> Result<Job<T::UpFile, T::AskFile>, Outcome>
+    ensures said { IfOk result (λ job. AreSaid T.kind update_file.now (map (λ file. file.items) query_files.now) (T.UpFile.items job.ups) (map T.AskFile.items job.asks.items)) }
     ensures refused { IfErr result (IsRefusedScript T.kind update_file.now (map (λ file. file.items) query_files.now)) }
 {
     if tasks <= 1 || !(update_file.len() >= LARGE || has_large(query_files)) {
         return read_scripts::<T>(alloc, update_file, query_files);
     }
-    let read_updates = || -> Result<(Vec<Numbered<UpLine<T::Call>>>, bool), Outcome>
-        ensures { IsUpdateFileRead T.kind update_file.entry.now result }
+    let read_updates = || -> Result<(T::UpFile, bool), Outcome>
+        ensures { IsUpdateFileRead T.kind T.UpFile.items update_file.entry.now result }
     { updates_in::<T>(alloc, update_file) };
-    let read_queries = || -> Result<(Vec<Vec<Numbered<AskLine<T::Ask>>>>, bool), Outcome>
-        ensures { AreQueryFilesRead T.kind (map (λ file. file.items) query_files.entry.now) result }
+    let read_queries = || -> Result<(Vec<T::AskFile>, bool), Outcome>
+        ensures { AreQueryFilesRead T.kind T.AskFile.items (map (λ file. file.items) query_files.entry.now) result }
     { queries_side_by_side::<T, R>(rt, alloc, query_files) };
     let (updates, queries) = thread::join(rt, read_updates, read_queries);
     put_together::<T>(update_file, query_files, updates, queries)
@@ -74,12 +74,12 @@ fn has_large(files: &[Vec<u8>]) -> bool
 fn put_together<T: RunKind>(
     update_file: &[u8],
     query_files: &[Vec<u8>],
-    updates: Result<(Vec<Numbered<UpLine<T::Call>>>, bool), Outcome>,
-    queries: Result<(Vec<Vec<Numbered<AskLine<T::Ask>>>>, bool), Outcome>,
-) -> Result<Job<T::Call, T::Ask>, Outcome>
-    requires updates { IsUpdateFileRead T.kind update_file.now updates }
-    requires queries { AreQueryFilesRead T.kind (map (λ file. file.items) query_files.now) queries }
-    ensures said { IfOk result (λ job. AreSaid T.kind update_file.now (map (λ file. file.items) query_files.now) job.ups.items (map (λ file. file.items) job.asks.items)) }
+    updates: Result<(T::UpFile, bool), Outcome>,
+    queries: Result<(Vec<T::AskFile>, bool), Outcome>,
+) -> Result<Job<T::UpFile, T::AskFile>, Outcome>
+    requires updates { IsUpdateFileRead T.kind T.UpFile.items update_file.now updates }
+    requires queries { AreQueryFilesRead T.kind T.AskFile.items (map (λ file. file.items) query_files.now) queries }
+    ensures said { IfOk result (λ job. AreSaid T.kind update_file.now (map (λ file. file.items) query_files.now) (T.UpFile.items job.ups) (map T.AskFile.items job.asks.items)) }
     ensures refused { IfErr result (IsRefusedScript T.kind update_file.now (map (λ file. file.items) query_files.now)) }
 {
     // Only the contract reads these: they say of which files the results are.
@@ -96,12 +96,12 @@ fn put_together<T: RunKind>(
 fn check<T: RunKind>(
     holds: bool,
     waits: bool,
-    ups: &[Numbered<UpLine<T::Call>>],
-    asks: &[Vec<Numbered<AskLine<T::Ask>>>],
+    ups: &T::UpFile,
+    asks: &[T::AskFile],
 ) -> Result<(), Outcome>
-    requires holds { holds ≡ any_hold ups.now }
-    requires waits { waits ≡ any_wait (map (λ file. file.items) asks.now) }
-    ensures { MatchResult result (λ _. checks_refusal T.kind ups.now (map (λ file. file.items) asks.now) ≡ None) (λ refusal. checks_refusal T.kind ups.now (map (λ file. file.items) asks.now) ≡ Some refusal) }
+    requires holds { holds ≡ any_hold (T.UpFile.items ups.now) }
+    requires waits { waits ≡ any_wait (map T.AskFile.items asks.now) }
+    ensures { MatchResult result (λ _. checks_refusal T.kind (T.UpFile.items ups.now) (map T.AskFile.items asks.now) ≡ None) (λ refusal. checks_refusal T.kind (T.UpFile.items ups.now) (map T.AskFile.items asks.now) ≡ Some refusal) }
 {
     if let Some(fault) = find_beyond(holds, waits, ups, asks) {
         return Err(refused(Why::Beyond, fault));
@@ -116,15 +116,15 @@ fn check<T: RunKind>(
 }
 
 // The first line that is beyond. Only one at which a task waits can be, so most scripts need no pass.
-fn find_beyond<C, Q>(
+fn find_beyond<C: Drop, Q: Drop, U: LineList<UpLine<C>>, F: LineList<AskLine<Q>>>(
     holds: bool,
     waits: bool,
-    ups: &[Numbered<UpLine<C>>],
-    asks: &[Vec<Numbered<AskLine<Q>>>],
+    ups: &U,
+    asks: &[F],
 ) -> Option<RangeFault>
-    requires holds { holds ≡ any_hold ups.now }
-    requires waits { waits ≡ any_wait (map (λ file. file.items) asks.now) }
-    ensures { result ≡ range_fault ups.now (map (λ file. file.items) asks.now) }
+    requires holds { holds ≡ any_hold (U.items ups.now) }
+    requires waits { waits ≡ any_wait (map F.items asks.now) }
+    ensures { result ≡ range_fault (U.items ups.now) (map F.items asks.now) }
 {
     if !holds && !waits {
         return None;
@@ -133,13 +133,13 @@ fn find_beyond<C, Q>(
 }
 
 // The first line that would wait for ever, which is a `hold`.
-fn find_circle<C, Q>(
+fn find_circle<C: Drop, Q: Drop, U: LineList<UpLine<C>>, F: LineList<AskLine<Q>>>(
     holds: bool,
-    ups: &[Numbered<UpLine<C>>],
-    asks: &[Vec<Numbered<AskLine<Q>>>],
+    ups: &U,
+    asks: &[F],
 ) -> Option<RangeFault>
-    requires { holds ≡ any_hold ups.now }
-    ensures { result ≡ circle_fault ups.now (map (λ file. file.items) asks.now) }
+    requires { holds ≡ any_hold (U.items ups.now) }
+    ensures { result ≡ circle_fault (U.items ups.now) (map F.items asks.now) }
 {
     if !holds {
         return None;
@@ -159,11 +159,8 @@ fn refused(why: Why, fault: RangeFault) -> Outcome
 }
 
 // The lines of the update file, and whether one of them is a `hold`.
-fn updates_in<T: RunKind>(
-    alloc: Global,
-    bytes: &[u8],
-) -> Result<(Vec<Numbered<UpLine<T::Call>>>, bool), Outcome>
-    ensures { IsUpdateFileRead T.kind bytes.now result }
+fn updates_in<T: RunKind>(alloc: Global, bytes: &[u8]) -> Result<(T::UpFile, bool), Outcome>
+    ensures { IsUpdateFileRead T.kind T.UpFile.items bytes.now result }
 {
     match T::scan_updates(alloc, bytes) {
         Ok(scanned) => Ok(scanned),
@@ -175,8 +172,8 @@ fn updates_in<T: RunKind>(
 fn queries_in<T: RunKind>(
     alloc: Global,
     files: &[Vec<u8>],
-) -> Result<(Vec<Vec<Numbered<AskLine<T::Ask>>>>, bool), Outcome>
-    ensures { AreQueryFilesRead T.kind (map (λ file. file.items) files.now) result }
+) -> Result<(Vec<T::AskFile>, bool), Outcome>
+    ensures { AreQueryFilesRead T.kind T.AskFile.items (map (λ file. file.items) files.now) result }
 {
     let mut asks = Vec::new(alloc);
     let mut waits = false;
@@ -195,12 +192,12 @@ fn queries_side_by_side<T: RunKind, R: Threads + Sync>(
     rt: &R,
     alloc: Global,
     files: &[Vec<u8>],
-) -> Result<(Vec<Vec<Numbered<AskLine<T::Ask>>>>, bool), Outcome>
-    ensures { AreQueryFilesRead T.kind (map (λ file. file.items) files.now) result }
+) -> Result<(Vec<T::AskFile>, bool), Outcome>
+    ensures { AreQueryFilesRead T.kind T.AskFile.items (map (λ file. file.items) files.now) result }
 {
-    let read = |i: usize| -> Result<(Vec<Numbered<AskLine<T::Ask>>>, bool), Outcome>
+    let read = |i: usize| -> Result<(T::AskFile, bool), Outcome>
         requires { i < length files.now }
-        ensures { (bytes : List ℕ) → slice_get (map (λ file. file.items) files.entry.now) i ≡ Some bytes → IsQueryFileRead T.kind (i + 1) bytes result }
+        ensures { (bytes : List ℕ) → slice_get (map (λ file. file.items) files.entry.now) i ≡ Some bytes → IsQueryFileRead T.kind T.AskFile.items (i + 1) bytes result }
     { queries_of::<T>(alloc, i as u64 + 1, &files[i]) };
     let said = thread::map_indices(rt, alloc, files.len(), &read)?;
     gather::<T>(alloc, files, said)
@@ -210,11 +207,11 @@ fn queries_side_by_side<T: RunKind, R: Threads + Sync>(
 fn gather<T: RunKind>(
     alloc: Global,
     files: &[Vec<u8>],
-    said: Vec<Result<(Vec<Numbered<AskLine<T::Ask>>>, bool), Outcome>>,
-) -> Result<(Vec<Vec<Numbered<AskLine<T::Ask>>>>, bool), Outcome>
+    said: Vec<Result<(T::AskFile, bool), Outcome>>,
+) -> Result<(Vec<T::AskFile>, bool), Outcome>
     requires len { length said.items ≡ length files.now }
-    requires each { AreReadEach T.kind (map (λ file. file.items) files.now) said.items }
-    ensures { AreQueryFilesRead T.kind (map (λ file. file.items) files.now) result }
+    requires each { AreReadEach T.kind T.AskFile.items (map (λ file. file.items) files.now) said.items }
+    ensures { AreQueryFilesRead T.kind T.AskFile.items (map (λ file. file.items) files.now) result }
 {
     // Only the contract reads these.
     let _files = files;
@@ -233,8 +230,8 @@ fn queries_of<T: RunKind>(
     alloc: Global,
     number: u64,
     bytes: &[u8],
-) -> Result<(Vec<Numbered<AskLine<T::Ask>>>, bool), Outcome>
-    ensures { IsQueryFileRead T.kind number bytes.now result }
+) -> Result<(T::AskFile, bool), Outcome>
+    ensures { IsQueryFileRead T.kind T.AskFile.items number bytes.now result }
 {
     match T::scan_queries(alloc, bytes) {
         Ok(scanned) => Ok(scanned),

@@ -15,9 +15,9 @@ use crate::outcome::Outcome;
 use ck_history::{Key, Update};
 use ck_io::{Gate, Shelf, Sink};
 use ck_jobs::run_over_table;
-use ck_pool::Job;
+use ck_pool::MapJob;
 use ck_report::{PutError, put_report};
-use ck_script::{AskLine, Numbered, RangeFault, ScriptError, UpLine, scan_queries, scan_updates};
+use ck_script::{AskLine, Lines, RangeFault, ScriptError, UpLine, scan_queries, scan_updates};
 use std::alloc::Global;
 use std::sync::Wait;
 use std::thread::Threads;
@@ -33,23 +33,27 @@ impl RunKind for OverTable {
 
     type Ask = Key;
 
+    type UpFile = Lines<UpLine<Update<Key>>>;
+
+    type AskFile = Lines<AskLine<Key>>;
+
     ghost kind = { table_kind };
 
     fn scan_updates(
         alloc: Global,
         bytes: &[u8],
-    ) -> Result<(Vec<Numbered<UpLine<Update<Key>>>>, bool), ScriptError> {
+    ) -> Result<(Lines<UpLine<Update<Key>>>, bool), ScriptError> {
         scan_updates(alloc, bytes)
     }
 
     fn scan_queries(
         alloc: Global,
         bytes: &[u8],
-    ) -> Result<(Vec<Numbered<AskLine<Key>>>, bool), ScriptError> {
+    ) -> Result<(Lines<AskLine<Key>>, bool), ScriptError> {
         scan_queries(alloc, bytes)
     }
 
-    fn surplus(_asks: &[Vec<Numbered<AskLine<Key>>>]) -> Option<RangeFault> {
+    fn surplus(_asks: &[Lines<AskLine<Key>>]) -> Option<RangeFault> {
         None
     }
 }
@@ -88,15 +92,15 @@ fn put_table<R: Threads + Wait + Sync, K: Sink, G: Gate + Sync>(
     rt: &R,
     alloc: Global,
     seed: u64,
-    job: &Job<Update<Key>, Key>,
+    job: &MapJob,
     workers: u64,
     sink: &mut K,
     gate: &G,
 ) -> Result<(), PutError>
     requires workers { (1 ≤ workers) × (workers ≤ 16) }
-    requires may { MayBegin job.now.ups.items job.now.asks.items }
-    ensures all { OnOk result ((text : List ℕ) × IsTextOf table_kind (job_script job.now.ups.items job.now.asks.items) text × (K.taken sink.new ≡ appended (K.taken sink.old) text)) }
-    ensures prefix { IfErr result (HasPut table_kind (job_script job.now.ups.items job.now.asks.items) (K.taken sink.old) (K.taken sink.new)) }
+    requires may { MayBegin job.now.ups.items (map (λ file. file.items) job.now.asks.items) }
+    ensures all { OnOk result ((text : List ℕ) × IsTextOf table_kind (job_script job.now.ups.items (map (λ file. file.items) job.now.asks.items)) text × (K.taken sink.new ≡ appended (K.taken sink.old) text)) }
+    ensures prefix { IfErr result (HasPut table_kind (job_script job.now.ups.items (map (λ file. file.items) job.now.asks.items)) (K.taken sink.old) (K.taken sink.new)) }
     ensures cause { IfErr result (λ error. IsPutCause error (K.faults sink.old) (K.faults sink.new)) }
     ensures lasting { K.faults sink.old ≤ K.faults sink.new }
 {

@@ -24,6 +24,6 @@ returns-in-Ok-clause-judged c u qs r is =
       said = rw (c.deref.ensures.value, same.0, same.1) at scripts.ensures.said;
       report = parts_of c.in_ok-report-in-len2-up.report;
       reads = rw (c.deref-in-len2-up.ensures.value, same.2) at c.in_ok-report-in-len2-up.ensures.reads;
-      judged = rw (c.deref-in-len2-up-2.ensures.value, c.deref-in-len2-up-3.ensures.value) at c.in-Ok.ensures.verdict;
-      exact = rw (c.deref-in-len2-up-2.ensures.value, c.deref-in-len2-up-3.ensures.value) at c.in-Ok.ensures.legal;
+      judged = rw c.deref-in-len2-up-2.ensures.value at c.in-Ok.ensures.verdict;
+      exact = rw c.deref-in-len2-up-2.ensures.value at c.in-Ok.ensures.legal;
     }

@@ -1,4 +1,4 @@
-use Rattle.std.proofs.Common.{◌+◌, ◌<◌, ◌≤◌, ℕ, List, length, refl, subst, arith, rules, map, decimal}
+use Rattle.std.proofs.Common.{◌+◌, ◌<◌, ◌≤◌, ℕ, List, length, refl, subst, arith, rules, map}
 use Rattle.std.proofs.lemmas.Iterator.Consumers.{YieldsList-turn, YieldsList-end}
 use Rattle.std.proofs.lemmas.Iterator.Adapters.{YieldsList-from_vec}
 use Rattle.std.proofs.lemmas.List.{length_push, take_all}
@@ -33,7 +33,7 @@ loop-one-preserved g c =
     let one = MatchResult-at_ok _ _ _ c.in_ok-lines.was (c.requires.each i next.0 c.in-Some.one next.1 there) in
     record {
       read = rw (length_push, next.2, c.in_ok-push.ensures.items, map_push) (queries_push g.T.RunKind.kind _ _ _ _ c.loop-one.invariant.read one.0);
-      waits = rw (c.in_ok-push.ensures.items, map_push) (any_wait_push (map (λ file. file.items) c.loop-one.asks.items) c.in_ok-lines.lines.items _ _ c.loop-one.invariant.waits one.1);
+      waits = rw (c.in_ok-push.ensures.items, map_push) (any_wait_push (map g.T.AskFile.LineList.items c.loop-one.asks.items) (g.T.AskFile.LineList.items c.in_ok-lines.lines) _ _ c.loop-one.invariant.waits one.1);
     }
 
 pub returns : goal.returns
@@ -42,4 +42,4 @@ returns g c =
     let end = YieldsList-end (YieldsList-from_vec {s = c.into_iter-one-iterator.result} c.args.said.items (search rules) (search rules))
     c.loop-one.yielded c.loop-one.one-iterator c.loop-one.yielded_by c.next.result c.next.new.self c.in-None.is c.next.ensures.steps in
     let all : length files ≤ length c.loop-one.yielded = omega (arith, end.1, c.requires.len, map_long (λ file. file.items) c.args.files.now) in
-    (subst (λ fs. AsksSay g.T.RunKind.kind.queries.is_line g.T.RunKind.kind.queries.words fs (map (λ file. file.items) c.loop-one.asks.items)) (take_all (length c.loop-one.yielded) files all) c.loop-one.invariant.read, c.loop-one.invariant.waits)
+    (subst (λ fs. AsksSay g.T.RunKind.kind.queries.is_line g.T.RunKind.kind.queries.words fs (map g.T.AskFile.LineList.items c.loop-one.asks.items)) (take_all (length c.loop-one.yielded) files all) c.loop-one.invariant.read, c.loop-one.invariant.waits)

@@ -17,5 +17,5 @@ loop-file-preserved g c =
     record {
       count = ap (λ n. n + 1) kept.count;
       read = rw (files, c.in_ok-push.ensures.items, map_push) (queries_push g.T.RunKind.kind _ _ _ _ kept.read (rw c.deref.ensures.value at c.in_ok-said.ensures.0));
-      waits = rw (c.in_ok-push.ensures.items, map_push) (any_wait_push (map (λ file. file.items) c.loop-file.asks.items) c.in_ok-said.said.items _ _ kept.waits c.in_ok-said.ensures.1);
+      waits = rw (c.in_ok-push.ensures.items, map_push) (any_wait_push (map g.T.AskFile.LineList.items c.loop-file.asks.items) (g.T.AskFile.LineList.items c.in_ok-said.said) _ _ kept.waits c.in_ok-said.ensures.1);
     }
