@@ -1,5 +1,5 @@
 -- An array under the pool.
-use Rattle.std.proofs.Common.{◌≡◌, List, [], ◌∷◌, length, map, sym, ap, subst, ◌∙◌, arith}
+use Rattle.std.proofs.Common.{◌≡◌, List, length, map, sym, ap, subst, ◌∙◌, arith}
 use Rattle.std.specs.Prelude.{All, ℕ}
 use Rattle.std.proofs.lemmas.List.{take_all}
 use Rattle.ck_run.specs.Tokens.{table}

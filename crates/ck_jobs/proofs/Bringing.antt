@@ -193,11 +193,11 @@ module _ {K : Type 0} {cmp : K → K → Ordering} (total : IsTotalOrder cmp) wh
         ]
     few-step m Tidy ordered few = few
 
-    few-after_from : (m : Map K) (us : List (Update K)) → IsMap cmp m → length m ≤ most → length (after_from cmp most m us) ≤ most
+    pub few-after_from : (m : Map K) (us : List (Update K)) → IsMap cmp m → length m ≤ most → length (after_from cmp most m us) ≤ most
     few-after_from m [] ordered few = few
     few-after_from m (u ∷ us) ordered few = few-after_from (step cmp most m u).0 us (IsMap-step total most m u ordered) (few-step m u ordered few)
 
-none_sorted : IsMap nat_cmp []
+pub none_sorted : IsMap nat_cmp []
 unfolding IsStrictlySortedBy
 none_sorted = tt
 

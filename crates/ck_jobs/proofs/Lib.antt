@@ -2,6 +2,7 @@ mod Placing
 mod Ends
 mod Ascending
 mod Bringing
+mod Counting
 mod Lines
 mod Tables
 mod Arrays

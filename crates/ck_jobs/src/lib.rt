@@ -10,6 +10,8 @@ mod over_list;
 mod over_table;
 mod room;
 #[cfg(test)]
+mod room_tests;
+#[cfg(test)]
 mod tests;
 
 pub use list_results::ListResults;

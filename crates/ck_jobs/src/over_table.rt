@@ -87,7 +87,7 @@ pub fn run_over_table<G: Gate + Sync, R: Threads + Wait + Sync>(
     requires ranges { range_fault job.now.ups.items (map (λ file. file.items) job.now.asks.items) ≡ None }
     ensures { IfOk result (AreMapResults most_pairs (job_script job.now.ups.items (map (λ file. file.items) job.now.asks.items))) }
 {
-    let pairs = pairs_of(&job.ups);
+    let pairs = pairs_of(alloc, &job.ups)?;
     let readers = job.asks.len() as u64;
     let (table, hand, passes) = Ht::with_room(
         alloc,

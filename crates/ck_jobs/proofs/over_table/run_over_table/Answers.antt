@@ -9,4 +9,4 @@ less_room log few many le room = omega arith
 
 pub serve_and_close-requires-clause-room : goal.serve_and_close-requires-clause-room
 serve_and_close-requires-clause-room g c κs within p =
-    less_room c.in_ok-table.table.origin.config.client.client.arena_log (pairs_after (updates (said_of c.args.job.now.ups.items)) p) c.pairs_of-pairs.result (c.pairs_of-pairs.ensures.enough p) c.in_ok-table.ensures.room
+    less_room c.in_ok-table.table.origin.config.client.client.arena_log (pairs_after (updates (said_of c.args.job.now.ups.items)) p) c.in_ok-pairs.pairs (c.in_ok-pairs.ensures.enough p) c.in_ok-table.ensures.room

@@ -2,7 +2,7 @@ use Rattle.std.proofs.Common.{◌≤◌, take}
 use Rattle.ck_script.specs.Script.{said_of, updates}
 use Rattle.ck_jobs.specs.Room.{brought}
 use Rattle.ck_jobs.proofs.Bringing.{IsCounted}
-use Rattle.ck_jobs.proofs.room.pairs_of.Given as goal
+use Rattle.ck_jobs.proofs.room.bound_of.Given as goal
 
 abbrev pub invariant-loop-i : goal.invariant-loop-i
 invariant-loop-i l = record {

@@ -5,8 +5,8 @@ use Rattle.ck_htlaw.specs.Actions.{most}
 use Rattle.ck_jobs.specs.Room.{brought}
 use Rattle.ck_jobs.proofs.Bringing.{brought-append, one_more_counted, bounded_after}
 use Rattle.ck_jobs.proofs.Lines.{updates-take}
-use Rattle.ck_jobs.proofs.room.pairs_of.Goals.{in-Some, in_default}
-use Rattle.ck_jobs.proofs.room.pairs_of.Goals as goal
+use Rattle.ck_jobs.proofs.room.bound_of.Goals.{in-Some, in_default}
+use Rattle.ck_jobs.proofs.room.bound_of.Goals as goal
 
 pub loop-i-preserved : goal.loop-i-preserved
 loop-i-preserved c =
