@@ -15,7 +15,7 @@ use ck_history::Busy;
 use ck_words::{Back, Buddies};
 use std::sync::Wait;
 
-/// A structure that has a domain of its own. Only contracts see it, so no value of such a type is made.
+/// A structure that has a domain of its own, as far as contracts speak of it.
 pub trait Pieces<C> {
     // Where its words begin, and which items are its own.
     ghost place: { Origin C → ℕ };
