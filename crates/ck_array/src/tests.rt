@@ -69,7 +69,7 @@ pub(crate) fn members(
     requires table { table pass.old.token ≡ array.now }
     requires section { 0 < depth pass.old.token }
     requires ready { IsPassReady array.now.origin pass.old }
-    requires calls { pass.old.calls < 2 ^ 32 }
+    requires calls { pass.old.calls < 2 ^ 40 }
     ensures table { table pass.new.token ≡ table pass.old.token }
     ensures ready { IsPassReady array.now.origin pass.new }
     ensures calls { pass.new.calls ≤ pass.old.calls + 1 }
