@@ -23,7 +23,7 @@ use Rattle.ck_htlaw.specs.Look.{LookState, no_look, at_version}
 use Rattle.ck_htlaw.specs.Table.{Layout, ReaderState, LocalState, reader, is_table_word, MayLookStep, LooksOn, after_own, after_other, after_look_step}
 use Rattle.ck_htlaw.specs.Client.{Answers, answers_after, table, table_next, look_ends, looks_next}
 use Rattle.ck_history.specs.declared.log.Look.{Look}
-use Rattle.ck_history.specs.declared.log.Look.TheVariants.{Found, Absent, Again}
+use Rattle.ck_history.specs.declared.log.Look.TheVariants.{Again}
 use lib.ListN.{get_elem?}
 use Rattle.atomic_table.proofs.Lists.{at_last}
 use Rattle.ck_htread.specs.Answered.{IsOut, PlacesLaw, HasAnswered, steps_of, AnswersAlone}
@@ -31,7 +31,7 @@ use Rattle.ck_htread.proofs.Telling.{record_of, has_answered}
 use Rattle.ck_htread.proofs.Alone.{account_of, counter_stands, gives}
 use Rattle.ck_htread.specs.declared.search.Search.{Search}
 use Rattle.ck_htread.specs.Scan.{state_after_scan, scan_loads}
-use Rattle.ck_htread.specs.Reading.{IsInLook, IsDueAt, state_then, LookTotals, totals_of, totals_after_look, totals_after_load, IsInState, IsBetweenLooks, LoadsSlots, LoadsLook, Looks, look_entries, look_result}
+use Rattle.ck_htread.specs.Reading.{IsInLook, IsDueAt, state_then, LookTotals, totals_of, totals_after_look, totals_after_load, IsInState, IsBetweenLooks, LoadsSlots, LoadsLook, look_entries, look_result}
 use Rattle.ck_htlaw.specs.Host.{Host, lies}
 use Rattle.ck_htlaw.specs.Known.{knows}
 use Rattle.ck_htlaw.proofs.Tokens.{local_after_all, is_inside, knows_next}
@@ -42,6 +42,13 @@ plus_zero n = omega arith
 
 plus_one : (n : ℕ) → suc n ≡ n + 1
 plus_one n = omega arith
+
+-- what was found is told by the answer
+pub found_is : (found x : Option ℕ) → look_result found ≡ look_result x → found ≡ x
+found_is (Some v) (Some z) e = let s : v ≡ z = cc in ap Some s
+found_is (Some v) None e = absurd cc
+found_is None (Some z) e = absurd cc
+found_is None None e = refl
 
 module _ {D : Type 0} (host : Host D) (o : Origin D) where
   abbrev l : Layout
@@ -125,9 +132,6 @@ module _ {D : Type 0} (host : Host D) (o : Origin D) where
 
   -- its answer, by what it loaded
   module _ (key : ℕ) (t u : Token D) (before after : ℕ) (found : Option ℕ) (h : LoadsLook host o key t before after found u) where
-    pub looks_is : (answer : Look) → answer ≡ cond (before == after) (look_result found) (Again before after) → Looks host o key t answer u
-    looks_is answer is = record { root = h.root; before = before; slots = h.slots; after = after; found = found; finds = h.finds; steps = h.steps; is = is }
-
     pub looks_more : before ≡ after → (knows host o u).looks ≡ (knows host o t).looks ++ (key, found) ∷ []
     looks_more e = h.at.looks ∙ ap (λ (b : Bool). (knows host o t).looks ++ cond b ((key, found) ∷ []) []) (eq-eqb before after e)
 
@@ -190,14 +194,6 @@ module _ {D : Type 0} (host : Host D) (o : Origin D) where
         let out : IsOut host o r past = ap look_state_of (sym (local_after_all w (answers_after w o.words (suc r) []) (account (suc r) past)) ∙ (ap (λ (a : Answers). a.local) at_first ∙ local)) ∙ between in
         let gave = gives host o places law r past s.rest es is_run out key found (ap (λ (a : Answers). a.looks) at_last ∙ (looks_more stands ∙ ap (λ (a : Answers). a.looks ++ (key, found) ∷ []) (sym at_first))) in
         is ∙ (ap (λ (b : Bool). cond b (look_result found) (Again before after)) (eq-eqb before after stands) ∙ ap look_result (sym gave))
-
-  pub found_is : (v : ℕ) (x : Option ℕ) → Found v ≡ look_result x → Some v ≡ x
-  found_is v (Some z) e = let s : v ≡ z = cc in ap Some s
-  found_is v None e = absurd cc
-
-  pub absent_is : (x : Option ℕ) → Absent ≡ look_result x → None ≡ x
-  absent_is (Some z) e = absurd cc
-  absent_is None e = refl
 
   pub again_is : (b a : ℕ) (x : Option ℕ) → Again b a ≡ look_result x → ⊥
   again_is b a (Some z) e = cc

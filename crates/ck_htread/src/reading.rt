@@ -188,6 +188,19 @@ fn load_look<D: Within<HtClient>>(domain: &Domain<D>, pass: &mut Pass<D>, key: K
     }
 }
 
+// The answer of a look by what it found.
+#[inline]
+fn answer_of(found: Option<u64>) -> Look
+    ensures answer { result ≡ look_result found }
+    ensures looks { (key : ℕ) → answered_by key result ≡ (key, found) ∷ [] }
+    ensures retries { retries_by result ≡ 0 }
+{
+    match found {
+        Some(value) => Look::Found(value),
+        None => Look::Absent,
+    }
+}
+
 /// The value of the key, or that it is absent, or, where the counter of the map that it read has risen, that the look is to be made again,
 /// as `ck_ht_get_spmc`, but without its loop. The pass's section is open. The clauses name the steps that it made, and the answer by what
 /// they loaded. In every true run an answer is what the map gave at a moment between the load of the root and the last load, at a place as
@@ -221,8 +234,5 @@ pub fn look<D: Within<HtClient>>(domain: &Domain<D>, pass: &mut Pass<D>, key: Ke
     }
     let answers = pass.tally() + 1;
     pass.set_tally(answers);
-    match loads.found {
-        Some(value) => Look::Found(value),
-        None => Look::Absent,
-    }
+    answer_of(loads.found)
 }
