@@ -1,5 +1,5 @@
 -- What `set`, `put` and `remove` do by their plan, from the writer between two calls.
-use Rattle.std.proofs.Common.{◌≡◌, ℕ, ◌+◌, ◌*◌, ◌^◌, ◌<◌, List, [], ◌∷◌, length, refl, ap, sym, ◌∙◌, subst, arith, inl, ◌≤◌, Bool, true, nat_le}
+use Rattle.std.proofs.Common.{◌≡◌, ℕ, ◌+◌, ◌*◌, ◌^◌, ◌<◌, List, [], ◌∷◌, length, refl, ap, sym, ◌∙◌, subst, arith, inl, ◌≤◌, Bool, true, false, nat_le}
 use Rattle.std.specs.Prelude.{MatchResult}
 use Rattle.std.specs.declared.result.Result.{Result}
 use Rattle.ck_run.specs.declared.account.Step.{Step}
@@ -7,11 +7,11 @@ use Rattle.ck_run.specs.declared.account.Step.TheVariants.{Store, Load}
 use Rattle.ck_run.specs.Range.{word_of}
 use Rattle.ck_run.specs.Run.{entry}
 use Rattle.ck_history.specs.declared.update.Reply.{Reply}
-use Rattle.ck_history.specs.declared.update.Reply.TheVariants.{Was, Missing, Fresh, Full}
+use Rattle.ck_history.specs.declared.update.Reply.TheVariants.{Was, Has, Missing, Fresh, Full}
 use Rattle.ck_epoch.specs.State.{Origin, base_of}
 use Rattle.ck_epoch.specs.Ends.{Writer}
 use Rattle.ck_htplan.specs.declared.cases.Plan.{Plan}
-use Rattle.ck_htplan.specs.declared.cases.Plan.TheVariants.{Stand, Move, Empty}
+use Rattle.ck_htplan.specs.declared.cases.Plan.TheVariants.{Stand, Move, Empty, Reuse}
 use Rattle.ck_htplan.specs.Region.{view_of}
 use Rattle.ck_htlaw.specs.declared.client.HtClient.{HtClient}
 use Rattle.ck_htlaw.specs.Host.{Host, first, inner, lies}
@@ -23,12 +23,12 @@ use Rattle.ck_htlaw.specs.Actions.{action, plan_now, put_reply, remove_reply, se
 use Rattle.ck_htwrite.specs.declared.state.HtState.{HtState}
 use Rattle.ck_htwrite.specs.declared.state.Need.{Need}
 use Rattle.ck_htwrite.specs.State.{IsReady, next_count}
-use Rattle.ck_htwrite.specs.Updates.{Asks, HasStates, IsDone, IsIn, IsMade, IsNeeded, PutSteps, RemoveSteps, SetSteps, bumped_count, move_steps, moved_lists, remove_steps, removed_lists, valued_lists, AddsFresh, InsertSteps, IsAdding, ReuseSteps, insert_steps, inserted_lists, reuse_steps, reused_lists}
+use Rattle.ck_htwrite.specs.Updates.{Asks, HasStates, IsDone, IsIn, IsMade, IsNeeded, IsRoomy, PutSteps, RemoveSteps, SetSteps, bumped_count, move_steps, moved_lists, remove_steps, removed_lists, valued_lists, AddsFresh, InsertSteps, IsAdding, ReuseSteps, insert_steps, inserted_lists, reuse_steps, reused_lists, StoreSteps, store_reply}
 use Rattle.ck_htwrite.specs.Writes.{MayMake, MayStep, Steps, counters_in, opened}
 use Rattle.ck_htwrite.proofs.Growing.{adding_idle, roomy_now}
 use Rattle.ck_htwrite.proofs.Slots.{item_in}
-use Rattle.ck_htwrite.proofs.Plans.{put_is, remove_is, set_is, tombstones_few, about_insert, about_nothing, about_reuse, keys_few, no_room, room}
-use Rattle.ck_htwrite.proofs.Made.{key_here, made_ask, made_move, made_remove, made_stand, may_ask, may_move, may_remove, may_stand, value_is, made_full, made_full_reuse, made_insert, made_reuse, may_insert, may_reuse, tombstone_here}
+use Rattle.ck_htwrite.proofs.Plans.{IsFound, IsMissing, by_found, by_missing, put_is, remove_is, set_is, tombstones_few, about_insert, about_nothing, about_reuse, keys_few, no_room, room}
+use Rattle.ck_htwrite.proofs.Made.{key_here, made_ask, made_move, made_remove, made_stand, may_ask, may_move, may_remove, may_stand, value_is, made_full, made_insert, made_reuse, may_insert, may_reuse, tombstone_here}
 
 module _ {D F : Type 0} (h : Host D) (o : Origin D) (w : Writer D F) (s : HtState) (r : IsReady h o w.token s) where
   abbrev l : Layout
@@ -80,7 +80,7 @@ module _ {D F : Type 0} (h : Host D) (o : Origin D) (w : Writer D F) (s : HtStat
     -- the key takes a tombstone
     module _ (adding_is : IsAdding l p opens reuse pair) where
       pub reuse_full : 262144 ≤ s.keys → (found : ℕ) (w' : Writer D F) → Steps h o w (entry opens (Load l.base found) ∷ []) w' → IsMade h o p (added l p) (ReuseSteps l p key value at) opens w Full w' s
-      reuse_full full found w' steps = made_full_reuse h o w w' s s r opens (stores_nothing reuse adding_is full) (no_room floor (first h o) client p s r.reflects full) found key value at steps refl
+      reuse_full full found w' steps = made_full h o w w' s s r opens (stores_nothing reuse adding_is full) (no_room floor (first h o) client p s r.reflects full) found (λ ss. ss ≡ reuse_steps l p.root at key value (bumped_count l p)) steps refl
 
       module _ (slot : at < 2 ^ log_of s.root) (few : s.keys < 262144) where
         reuses : (x : Step) → action l p (entry opens x) ≡ inserts reuse pair
@@ -101,7 +101,7 @@ module _ {D F : Type 0} (h : Host D) (o : Origin D) (w : Writer D F) (s : HtStat
       adds_empty = adding_idle floor (first h o) client p s r.reflects opens key value at adds planned r.idles
 
       pub insert_full : 262144 ≤ s.keys → (found : ℕ) (w' : Writer D F) → Steps h o w (entry opens (Load l.base found) ∷ []) w' → IsDone h o p (added l p) (InsertSteps l p key value at) (Empty at) opens key value w Full w' s s
-      insert_full full found w' steps = inl (made_full h o w w' s s r opens (stores_nothing empty adds_empty full) (no_room floor (first h o) client p s r.reflects full) found key value at steps refl, refl, refl)
+      insert_full full found w' steps = inl (made_full h o w w' s s r opens (stores_nothing empty adds_empty full) (no_room floor (first h o) client p s r.reflects full) found (λ ss. IsRoomy l p × (ss ≡ insert_steps l p.root at key value)) steps refl, refl, refl)
 
       module _ (slot : at < 2 ^ log_of s.root) (few : s.keys < 262144) (b : Bool) (is_roomy : b ≡ nat_le (4 * (s.keys + s.tombstones + 1)) (3 * 2 ^ log_of s.root)) (roomy : b ≡ true) where
         puts_in : (x : Step) → action l p (entry opens x) ≡ inserts empty pair
@@ -132,92 +132,101 @@ module _ {D F : Type 0} (h : Host D) (o : Origin D) (w : Writer D F) (s : HtStat
           → MatchResult result (λ reply. IsDone h o p (expected plan) (Are plan) plan opens key value w reply w' s s') (λ need. IsNeeded h o p plan s need)
       done_or_needed result w' s' = subst (λ (z : Plan). MatchResult result (λ reply. IsDone h o p (expected z) (Are z) z opens key value w reply w' s s') (λ need. IsNeeded h o p z s need)) (sym is)
 
-      -- nothing is stored
-      pub asked : ((x : Step) → action l p (entry opens x) ≡ nothing) → ((ss : List Step) → Asks l ss → Are case ss) → (reply : Reply) → reply ≡ expected case → (found : ℕ) (w' : Writer D F) → Steps h o w (entry opens (Load l.base found) ∷ []) w' → IsMade h o p (expected plan) (Are plan) opens w reply w' s
-      asked does asks reply same found w' steps = made_by reply w' s (made_ask h o w w' s s r opens does found (expected case) reply same (Are case) asks steps refl)
+    -- A fresh key of `set` or `put` takes an empty slot, or a tombstone
+    module _ (plan : Plan) (at : ℕ) where
+      pub stored_empty : (keeps : Bool) → plan ≡ Empty at → (result : Result Reply Need) (w' : Writer D F) (s' : HtState) → MatchResult result (λ reply. IsDone h o p (added l p) (InsertSteps l p key value at) (Empty at) opens key value w reply w' s s') (λ need. IsNeeded h o p (Empty at) s need)
+          → MatchResult result (λ reply. IsDone h o p (store_reply l p keeps plan) (StoreSteps l p keeps key value plan) plan opens key value w reply w' s s') (λ need. IsNeeded h o p plan s need)
+      stored_empty true is = done_or_needed plan (Empty at) is (put_reply l p) (PutSteps l p key value)
+      stored_empty false is = done_or_needed plan (Empty at) is (set_reply l p) (SetSteps l p key value)
 
-    -- `put` stores nothing where its key is present
-    module _ (plan : Plan) (planned : plan_now l p key ≡ plan) (named : opens ≡ put ∷ key ∷ value ∷ []) (case : Plan) (is : plan ≡ case) (stores_nothing : (word : ℕ) → to_put l p case key value word ≡ nothing) where
-      asks_now : (x : Step) → action l p (entry opens x) ≡ nothing
-      asks_now x = put_is l p r.idles key value case (planned ∙ is) opens named x ∙ stores_nothing (word_of x)
-
-      pub may_put_ask : (found : ℕ) → MayStep h o w.token (entry opens (Load l.base found))
-      may_put_ask = may_ask h o w w s s r opens asks_now
-
-      pub put_asks : ((ss : List Step) → Asks l ss → PutSteps l p key value case ss) → (reply : Reply) → reply ≡ put_reply l p case → (found : ℕ) (w' : Writer D F) → Steps h o w (entry opens (Load l.base found) ∷ []) w' → IsDone h o p (put_reply l p plan) (PutSteps l p key value plan) plan opens key value w reply w' s s
-      put_asks asks reply same found w' steps = inl (asked plan case is (put_reply l p) (PutSteps l p key value) asks_now asks reply same found w' steps, refl, refl)
-
-    -- nor does `remove` where it is missing
-    module _ (plan : Plan) (planned : plan_now l p key ≡ plan) (named : opens ≡ remove ∷ key ∷ []) (case : Plan) (is : plan ≡ case) (stores_nothing : to_remove l p case key ≡ nothing) where
-      misses : (x : Step) → action l p (entry opens x) ≡ nothing
-      misses x = remove_is l p r.idles key value case (planned ∙ is) opens named x ∙ stores_nothing
-
-      pub may_remove_ask : (found : ℕ) → MayStep h o w.token (entry opens (Load l.base found))
-      may_remove_ask = may_ask h o w w s s r opens misses
-
-      pub remove_asks : ((ss : List Step) → Asks l ss → RemoveSteps l p case ss) → remove_reply l p case ≡ Missing → (found : ℕ) (w' : Writer D F) → Steps h o w (entry opens (Load l.base found) ∷ []) w' → IsMade h o p (remove_reply l p plan) (RemoveSteps l p plan) opens w Missing w' s
-      remove_asks asks missing found w' steps = asked plan case is (remove_reply l p) (RemoveSteps l p) misses asks Missing (sym missing) found w' steps
-
-    -- a present key is removed from its slot
-    module _ (plan : Plan) (planned : plan_now l p key ≡ plan) (case : Plan) (is : plan ≡ case) (at : ℕ) (few : at < slots) (full : (view_of s.words.items).state at ≡ 1) (deleted : to_remove l p case key ≡ deletes key at) (named : opens ≡ remove ∷ key ∷ []) where
-      removes : (x : Step) → action l p (entry opens x) ≡ deletes key at
-      removes x = remove_is l p r.idles key 0 case (planned ∙ is) opens named x ∙ deleted
-
-      pub some_keys : 0 < s.keys
-      some_keys = key_here h o w w s s r opens key at few removes full
-
-      pub may_delete : MayMake h o w.token (opened opens (remove_steps l s.root at (next_count n s)))
-      may_delete = may_remove h o w w s s r opens key at few removes full
-
-      pub deleted_by : (x : ℕ) → x ≡ (view_of s.words.items).value at → remove_reply l p case ≡ Was ((slots_now l p).value at) → RemoveSteps l p case ≡ (λ ss. ss ≡ remove_steps l p.root at (bumped_count l p)) → (w' : Writer D F) (s' : HtState) → Steps h o w (opened opens (remove_steps l s.root at (next_count n s))) w' → s' ≡ removed_lists n s at → IsMade h o p (remove_reply l p plan) (RemoveSteps l p plan) opens w (Was x) w' s'
-      deleted_by x was answer are w' s' steps then = made_by plan case is (remove_reply l p) (RemoveSteps l p) (Was x) w' s'
-          (subst (λ (Are : List Step → Type 0). IsMade h o p (remove_reply l p case) Are opens w (Was x) w' s') (sym are)
-          (made_remove h o w w' s s' r opens key at few removes full _ _ (ap Was (value_is h o w w s s r opens at few full x was) ∙ sym answer) steps then))
+      pub stored_reused : (keeps : Bool) → plan ≡ Reuse at → (reply : Reply) (w' : Writer D F) (s' : HtState) → IsMade h o p (added l p) (ReuseSteps l p key value at) opens w reply w' s' → (s'.root ≡ s.root) × (s'.arena ≡ s.arena)
+          → IsDone h o p (store_reply l p keeps plan) (StoreSteps l p keeps key value plan) plan opens key value w reply w' s s'
+      stored_reused true is = done_by plan (Reuse at) is (put_reply l p) (PutSteps l p key value)
+      stored_reused false is = done_by plan (Reuse at) is (set_reply l p) (SetSteps l p key value)
 
     -- a key that is present, by its plan
     module _ (plan : Plan) (planned : plan_now l p key ≡ plan) (inside : IsIn slots plan) (states : HasStates (view_of s.words.items) plan) where
+      -- It stands in this slot
+      module _ (at : ℕ) (found : IsFound at plan) where
+        stands_here : (at < slots) × ((view_of s.words.items).state at ≡ 1)
+        stands_here = by_found (λ (z : Plan). IsIn slots z → HasStates (view_of s.words.items) z → (at < slots) × ((view_of s.words.items).state at ≡ 1)) at (λ i full. (i, full)) (λ to i full. (i.1, full.1)) plan found inside states
+
+        pub value_here : 4 * at + 3 < length s.words.items
+        value_here = value_in at stands_here.0
+
+        had : (x : ℕ) → x ≡ (view_of s.words.items).value at → x ≡ (slots_now l p).value at
+        had = value_is h o w w s s r opens at stands_here.0 stands_here.1
+
+        -- `put` keeps its value
+        module _ (named : opens ≡ put ∷ key ∷ value ∷ []) where
+          asks_now : (x : Step) → action l p (entry opens x) ≡ nothing
+          asks_now x = put_is l p r.idles key value plan planned opens named x ∙ by_found (λ (z : Plan). to_put l p z key value (word_of x) ≡ nothing) at refl (λ to. refl) plan found
+
+          pub may_put_ask : (root : ℕ) → MayStep h o w.token (entry opens (Load l.base root))
+          may_put_ask = may_ask h o w w s s r opens asks_now
+
+          pub put_asks : (x : ℕ) → x ≡ (view_of s.words.items).value at → (root : ℕ) (w' : Writer D F) → Steps h o w (entry opens (Load l.base root) ∷ []) w' → IsDone h o p (put_reply l p plan) (PutSteps l p key value plan) plan opens key value w (Has x) w' s s
+          put_asks x is root w' steps =
+              let made = made_ask h o w w' s s r opens asks_now root (Has ((slots_now l p).value at)) (Has x) (ap Has (had x is)) (Asks l) (λ ss asks. asks) steps refl in
+              inl (by_found (λ (z : Plan). IsMade h o p (put_reply l p z) (PutSteps l p key value z) opens w (Has x) w' s) at made (λ to. made) plan found, refl, refl)
+
+        -- `remove` takes it out
+        module _ (named : opens ≡ remove ∷ key ∷ []) where
+          removes : (x : Step) → action l p (entry opens x) ≡ deletes key at
+          removes x = remove_is l p r.idles key 0 plan planned opens named x ∙ by_found (λ (z : Plan). to_remove l p z key ≡ deletes key at) at refl (λ to. refl) plan found
+
+          pub some_keys : 0 < s.keys
+          some_keys = key_here h o w w s s r opens key at stands_here.0 removes stands_here.1
+
+          pub may_delete : MayMake h o w.token (opened opens (remove_steps l s.root at (next_count n s)))
+          may_delete = may_remove h o w w s s r opens key at stands_here.0 removes stands_here.1
+
+          pub deleted_by : (x : ℕ) → x ≡ (view_of s.words.items).value at → (w' : Writer D F) (s' : HtState) → Steps h o w (opened opens (remove_steps l s.root at (next_count n s))) w' → s' ≡ removed_lists n s at → IsMade h o p (remove_reply l p plan) (RemoveSteps l p plan) opens w (Was x) w' s'
+          deleted_by x is w' s' steps then =
+              let made = made_remove h o w w' s s' r opens key at stands_here.0 removes stands_here.1 (Was ((slots_now l p).value at)) (Was x) (ap Was (had x is)) steps then in
+              by_found (λ (z : Plan). IsMade h o p (remove_reply l p z) (RemoveSteps l p z) opens w (Was x) w' s') at made (λ to. made) plan found
+
       in_case : (case : Plan) → plan ≡ case → IsIn slots case
       in_case case is = subst (IsIn slots) is inside
 
       states_of : (case : Plan) → plan ≡ case → HasStates (view_of s.words.items) case
       states_of case is = subst (HasStates (view_of s.words.items)) is states
 
-      -- It stands before every tombstone
-      module _ (at : ℕ) (is : plan ≡ Stand at) where
-        pub value_in_stand : 4 * at + 3 < length s.words.items
-        value_in_stand = value_in at (in_case (Stand at) is)
+      -- `set` replaces its value, where it stands before every tombstone
+      module _ (at : ℕ) (is : plan ≡ Stand at) (named : opens ≡ set ∷ key ∷ value ∷ []) where
+        sets : (x : Step) → action l p (entry opens x) ≡ stands key at value
+        sets = set_is l p r.idles key value (Stand at) (planned ∙ is) opens named
 
-        pub value_of_stand : (x : ℕ) → x ≡ (view_of s.words.items).value at → x ≡ (slots_now l p).value at
-        value_of_stand = value_is h o w w s s r opens at (in_case (Stand at) is) (states_of (Stand at) is)
+        pub may_set_stand : MayStep h o w.token (entry opens (Store (l.word s.root at 3) value))
+        may_set_stand = may_stand h o w w s s r opens key value at (in_case (Stand at) is) sets (states_of (Stand at) is)
 
-        module _ (named : opens ≡ set ∷ key ∷ value ∷ []) where
-          sets : (x : Step) → action l p (entry opens x) ≡ stands key at value
-          sets = set_is l p r.idles key value (Stand at) (planned ∙ is) opens named
+        pub set_stand : (x : ℕ) → x ≡ (view_of s.words.items).value at → (w' : Writer D F) (s' : HtState) → Steps h o w (entry opens (Store (l.word s.root at 3) value) ∷ []) w' → s' ≡ valued_lists s at value → IsDone h o p (set_reply l p plan) (SetSteps l p key value plan) plan opens key value w (Was x) w' s s'
+        set_stand x was w' s' steps then = done_by plan (Stand at) is (set_reply l p) (SetSteps l p key value) (Was x) w' s'
+            (made_stand h o w w' s s' r opens key value at (in_case (Stand at) is) sets (states_of (Stand at) is) _ _ (ap Was (value_is h o w w s s r opens at (in_case (Stand at) is) (states_of (Stand at) is) x was)) steps then)
+            (ap (λ (z : HtState). z.root) then, ap (λ (z : HtState). z.arena) then)
 
-          pub may_set_stand : MayStep h o w.token (entry opens (Store (l.word s.root at 3) value))
-          may_set_stand = may_stand h o w w s s r opens key value at (in_case (Stand at) is) sets (states_of (Stand at) is)
+      -- and where a tombstone comes before it
+      module _ (to from : ℕ) (is : plan ≡ Move to from) (named : opens ≡ set ∷ key ∷ value ∷ []) where
+        moves : (x : Step) → action l p (entry opens x) ≡ inserts (move from) (record { key = key; number = value; to = to })
+        moves = set_is l p r.idles key value (Move to from) (planned ∙ is) opens named
 
-          pub set_stand : (x : ℕ) → x ≡ (view_of s.words.items).value at → (w' : Writer D F) (s' : HtState) → Steps h o w (entry opens (Store (l.word s.root at 3) value) ∷ []) w' → s' ≡ valued_lists s at value → IsDone h o p (set_reply l p plan) (SetSteps l p key value plan) plan opens key value w (Was x) w' s s'
-          set_stand x was w' s' steps then = done_by plan (Stand at) is (set_reply l p) (SetSteps l p key value) (Was x) w' s'
-              (made_stand h o w w' s s' r opens key value at (in_case (Stand at) is) sets (states_of (Stand at) is) _ _ (ap Was (value_of_stand x was)) steps then)
-              (ap (λ (z : HtState). z.root) then, ap (λ (z : HtState). z.arena) then)
+        pub may_set_move : MayMake h o w.token (opened opens (move_steps l s.root to from key value (next_count n s)))
+        may_set_move = may_move h o w w s s r opens key value to from (in_case (Move to from) is).0 (in_case (Move to from) is).1 moves (states_of (Move to from) is).0 (states_of (Move to from) is).1
 
-      -- A tombstone comes before it
-      module _ (to from : ℕ) (is : plan ≡ Move to from) where
-        pub value_in_move : 4 * from + 3 < length s.words.items
-        value_in_move = value_in from (in_case (Move to from) is).1
+        pub set_move : (x : ℕ) → x ≡ (view_of s.words.items).value from → (w' : Writer D F) (s' : HtState) → Steps h o w (opened opens (move_steps l s.root to from key value (next_count n s))) w' → s' ≡ moved_lists n s to from key value → IsDone h o p (set_reply l p plan) (SetSteps l p key value plan) plan opens key value w (Was x) w' s s'
+        set_move x was w' s' steps then = done_by plan (Move to from) is (set_reply l p) (SetSteps l p key value) (Was x) w' s'
+            (made_move h o w w' s s' r opens key value to from (in_case (Move to from) is).0 (in_case (Move to from) is).1 moves (states_of (Move to from) is).0 (states_of (Move to from) is).1 _ _ (ap Was (value_is h o w w s s r opens from (in_case (Move to from) is).1 (states_of (Move to from) is).1 x was)) steps then)
+            (ap (λ (z : HtState). z.root) then, ap (λ (z : HtState). z.arena) then)
 
-        pub value_of_move : (x : ℕ) → x ≡ (view_of s.words.items).value from → x ≡ (slots_now l p).value from
-        value_of_move = value_is h o w w s s r opens from (in_case (Move to from) is).1 (states_of (Move to from) is).1
+    -- `remove` stores nothing where its key is missing
+    module _ (plan : Plan) (planned : plan_now l p key ≡ plan) (missing : IsMissing plan) (named : opens ≡ remove ∷ key ∷ []) where
+      misses : (x : Step) → action l p (entry opens x) ≡ nothing
+      misses x = remove_is l p r.idles key 0 plan planned opens named x ∙ by_missing (λ (z : Plan). to_remove l p z key ≡ nothing) (λ at. refl) (λ at. refl) plan missing
 
-        module _ (named : opens ≡ set ∷ key ∷ value ∷ []) where
-          moves : (x : Step) → action l p (entry opens x) ≡ inserts (move from) (record { key = key; number = value; to = to })
-          moves = set_is l p r.idles key value (Move to from) (planned ∙ is) opens named
+      pub may_remove_ask : (root : ℕ) → MayStep h o w.token (entry opens (Load l.base root))
+      may_remove_ask = may_ask h o w w s s r opens misses
 
-          pub may_set_move : MayMake h o w.token (opened opens (move_steps l s.root to from key value (next_count n s)))
-          may_set_move = may_move h o w w s s r opens key value to from (in_case (Move to from) is).0 (in_case (Move to from) is).1 moves (states_of (Move to from) is).0 (states_of (Move to from) is).1
-
-          pub set_move : (x : ℕ) → x ≡ (view_of s.words.items).value from → (w' : Writer D F) (s' : HtState) → Steps h o w (opened opens (move_steps l s.root to from key value (next_count n s))) w' → s' ≡ moved_lists n s to from key value → IsDone h o p (set_reply l p plan) (SetSteps l p key value plan) plan opens key value w (Was x) w' s s'
-          set_move x was w' s' steps then = done_by plan (Move to from) is (set_reply l p) (SetSteps l p key value) (Was x) w' s'
-              (made_move h o w w' s s' r opens key value to from (in_case (Move to from) is).0 (in_case (Move to from) is).1 moves (states_of (Move to from) is).0 (states_of (Move to from) is).1 _ _ (ap Was (value_of_move x was)) steps then)
-              (ap (λ (z : HtState). z.root) then, ap (λ (z : HtState). z.arena) then)
+      pub remove_asks : (root : ℕ) (w' : Writer D F) → Steps h o w (entry opens (Load l.base root) ∷ []) w' → IsMade h o p (remove_reply l p plan) (RemoveSteps l p plan) opens w Missing w' s
+      remove_asks root w' steps =
+          let made = made_ask h o w w' s s r opens misses root Missing Missing refl (Asks l) (λ ss asks. asks) steps refl in
+          by_missing (λ (z : Plan). IsMade h o p (remove_reply l p z) (RemoveSteps l p z) opens w Missing w' s) (λ at. made) (λ at. made) plan missing

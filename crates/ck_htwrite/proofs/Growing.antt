@@ -22,6 +22,7 @@ use Rattle.ck_htwrite.specs.Rebuild.{BeginsRebuildAt}
 use Rattle.ck_htwrite.specs.State.{Reflects}
 use Rattle.ck_htwrite.specs.Updates.{AddsFresh, IsAdding, IsRoomy}
 use Rattle.ck_htwrite.proofs.Agree.{keys_are, tombstones_are}
+use Rattle.ck_htwrite.proofs.Finding.{le_true}
 use Rattle.ck_htwrite.proofs.Plans.{room, about_in, about_insert, rule_is}
 
 -- how many slots a rebuild takes
@@ -56,9 +57,6 @@ grown_log c keys low high few hole = by (nat_lt (2 ^ c) (2 * (keys + 1))) refl
       roomy = omega arith;
     }
     by false e = let less = lt_not (2 ^ c) (2 * (keys + 1)) e in let g = eight c low in record { least = low; most = high; fits = omega arith; roomy = omega arith }
-
-le_true : (a b : ℕ) → a ≤ b → nat_le a b ≡ true
-le_true a b h = grind (arith, nat_tests)
 
 module _ (floor base : ℕ) (client : HtClient) (p : WriterState) (s : HtState) where
   abbrev n : ℕ

@@ -168,13 +168,9 @@ module _ {D F : Type 0} (h : Host D) (o : Origin D) (w w' : Writer D F) (s s' : 
     }
 
   -- there is no room for a fresh key
-  pub made_full : ((x : Step) → action l p (entry opens x) ≡ nothing) → has_room ≡ false → (found : ℕ) (key value at : ℕ) → Steps h o w (entry opens (Load l.base found) ∷ []) w' → s' ≡ s → IsMade h o p (added l p) (InsertSteps l p key value at) opens w Full w' s'
-  made_full does full found key value at steps is = made_ask does found (added l p) Full (sym (ap (λ (b : Bool). cond b Fresh Full) full)) (InsertSteps l p key value at)
-      (λ ss asks. subst (λ (b : Bool). MatchBool b (IsRoomy l p × (ss ≡ insert_steps l p.root at key value)) (Asks l ss)) (sym full) asks) steps is
-
-  pub made_full_reuse : ((x : Step) → action l p (entry opens x) ≡ nothing) → has_room ≡ false → (found : ℕ) (key value at : ℕ) → Steps h o w (entry opens (Load l.base found) ∷ []) w' → s' ≡ s → IsMade h o p (added l p) (ReuseSteps l p key value at) opens w Full w' s'
-  made_full_reuse does full found key value at steps is = made_ask does found (added l p) Full (sym (ap (λ (b : Bool). cond b Fresh Full) full)) (ReuseSteps l p key value at)
-      (λ ss asks. subst (λ (b : Bool). MatchBool b (ss ≡ reuse_steps l p.root at key value (bumped_count l p)) (Asks l ss)) (sym full) asks) steps is
+  pub made_full : ((x : Step) → action l p (entry opens x) ≡ nothing) → has_room ≡ false → (found : ℕ) (IfRoom : List Step → Type 0) → Steps h o w (entry opens (Load l.base found) ∷ []) w' → s' ≡ s → IsMade h o p (added l p) (λ ss. MatchBool has_room (IfRoom ss) (Asks l ss)) opens w Full w' s'
+  made_full does full found IfRoom steps is = made_ask does found (added l p) Full (sym (ap (λ (b : Bool). cond b Fresh Full) full)) (λ ss. MatchBool has_room (IfRoom ss) (Asks l ss))
+      (λ ss asks. subst (λ (b : Bool). MatchBool b (IfRoom ss) (Asks l ss)) (sym full) asks) steps is
 
   -- the value of a full slot, as the law has it
   pub value_is : (at : ℕ) → at < slots → states at ≡ 1 → (x : ℕ) → x ≡ (view_of s.words.items).value at → x ≡ (slots_now l p).value at

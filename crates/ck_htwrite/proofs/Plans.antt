@@ -1,5 +1,5 @@
 -- The plan of an update on the writer's lists, and which case it is.
-use Rattle.std.proofs.Common.{◌≡◌, ℕ, ◌+◌, ◌*◌, ◌^◌, ◌<◌, ◌≤◌, Bool, true, false, cond, nat_lt, nat_le, List, [], ◌∷◌, sym, ap, ◌∙◌, subst, arith}
+use Rattle.std.proofs.Common.{◌≡◌, ℕ, ◌+◌, ◌*◌, ◌^◌, ◌<◌, ◌≤◌, ◌⊎◌, ⊎_elim, Bool, true, false, cond, nat_lt, nat_le, List, [], ◌∷◌, refl, sym, ap, ◌∙◌, subst, arith}
 use Rattle.std.specs.Prelude.{MatchBool}
 use Rattle.std.proofs.lemmas.Bool.Decides.{nat_tests}
 use Rattle.std.proofs.Math.Nat.{pow-le-pow_right}
@@ -21,8 +21,9 @@ use Rattle.ck_htlaw.specs.Table.{Layout, WriterState, inserts, nothing, begins_r
 use Rattle.ck_htlaw.specs.Actions.{most, action, by_stage, goes_in, keys_now, tombstones_now, plan_now, root_at, to_set, to_put, to_remove}
 use Rattle.ck_htlaw.specs.Client.{orders_of, hash_of}
 use Rattle.ck_htwrite.specs.declared.state.HtState.{HtState}
+use Rattle.ck_htwrite.specs.Rebuild.{GoesOnAfter}
 use Rattle.ck_htwrite.specs.State.{Reflects}
-use Rattle.ck_htwrite.specs.Updates.{AddsFresh, Asks, IsIn, HasStates, InsertSteps, IsAdding, IsRebuildDue, IsRoomy, PutSteps, SetSteps, insert_steps}
+use Rattle.ck_htwrite.specs.Updates.{AddsFresh, Asks, IsIn, HasStates, InsertSteps, IsAdding, IsRebuildDue, IsRoomy, PutSteps, SetSteps, insert_steps, storing}
 use Rattle.ck_htwrite.proofs.Agree.{keys_are, tombstones_are}
 use Rattle.ck_htwrite.proofs.Slots.{count_most}
 
@@ -50,7 +51,7 @@ less n k e h = grind (arith, nat_tests)
 not_less : (n k : ℕ) → n ≡ k → 262144 ≤ n → nat_lt k 262144 ≡ false
 not_less n k e h = grind (arith, nat_tests)
 
-over_full : (a b : ℕ) → nat_le a b ≡ false → b < a
+pub over_full : (a b : ℕ) → nat_le a b ≡ false → b < a
 over_full a b h = grind (arith, nat_tests)
 
 module _ (floor base : ℕ) (client : HtClient) (p : WriterState) (s : HtState) where
@@ -103,12 +104,33 @@ module _ (l : Layout) (p : WriterState) (idles : p.stage ≡ idle) (key value : 
   pub remove_is : (opens : List ℕ) → opens ≡ removing ∷ key ∷ [] → (x : Step) → action l p (entry opens x) ≡ to_remove l p plan key
   remove_is opens e x = ap (λ (os : List ℕ). action l p (entry os x)) e ∙ (ap (λ (g : Stage). by_stage l p g (entry (removing ∷ key ∷ []) x)) idles ∙ ap (λ (q : Plan). to_remove l p q key) is)
 
--- after a rebuild these calls put their fresh key in
-pub adds_set : (key value : ℕ) → AddsFresh (setting ∷ key ∷ value ∷ []) key value
-adds_set key value l p at planned word = ap (λ (q : Plan). to_set l p q key value word) planned
+  -- a fresh key of either call takes a tombstone
+  pub reuses_stored : (keeps : Bool) (at : ℕ) → plan ≡ Reuse at → (opens : List ℕ) → opens ≡ storing keeps key value → IsAdding l p opens reuse (record { key = key; number = value; to = at })
+  reuses_stored true at case opens e x = put_is opens e x ∙ ap (λ (q : Plan). to_put l p q key value (word_of x)) case
+  reuses_stored false at case opens e x = set_is opens e x ∙ ap (λ (q : Plan). to_set l p q key value (word_of x)) case
 
-pub adds_put : (key value : ℕ) → AddsFresh (putting ∷ key ∷ value ∷ []) key value
-adds_put key value l p at planned word = ap (λ (q : Plan). to_put l p q key value word) planned
+-- after a rebuild these calls go on, and put their fresh key in
+pub stored_goes_on : (keeps : Bool) (key value : ℕ) (l : Layout) → GoesOnAfter l (storing keeps key value)
+stored_goes_on true key value l q = refl
+stored_goes_on false key value l q = refl
+
+pub adds_stored : (keeps : Bool) (key value : ℕ) → AddsFresh (storing keeps key value) key value
+adds_stored true key value l p at planned word = ap (λ (q : Plan). to_put l p q key value word) planned
+adds_stored false key value l p at planned word = ap (λ (q : Plan). to_set l p q key value word) planned
+
+-- the key of a plan stands in this slot, and what holds of both such plans
+abbrev pub IsFound : ℕ → Plan → Type 0
+IsFound at plan = (plan ≡ Stand at) ⊎ ((to : ℕ) × (plan ≡ Move to at))
+
+pub by_found : (P : Plan → Type 0) (at : ℕ) → P (Stand at) → ((to : ℕ) → P (Move to at)) → (plan : Plan) → IsFound at plan → P plan
+by_found P at stand move plan = ⊎_elim (λ (e : plan ≡ Stand at). subst P (sym e) stand) (λ (m : (to : ℕ) × (plan ≡ Move to at)). subst P (sym m.1) (move m.0))
+
+-- it is missing
+abbrev pub IsMissing : Plan → Type 0
+IsMissing plan = ((at : ℕ) × (plan ≡ Empty at)) ⊎ ((at : ℕ) × (plan ≡ Reuse at))
+
+pub by_missing : (P : Plan → Type 0) → ((at : ℕ) → P (Empty at)) → ((at : ℕ) → P (Reuse at)) → (plan : Plan) → IsMissing plan → P plan
+by_missing P takes reuses plan = ⊎_elim (λ (m : (at : ℕ) × (plan ≡ Empty at)). subst P (sym m.1) (takes m.0)) (λ (m : (at : ℕ) × (plan ≡ Reuse at)). subst P (sym m.1) (reuses m.0))
 
 -- a call that made the steps of its plan had no rebuild due
 module _ (l : Layout) (p : WriterState) (key value : ℕ) (plan : Plan) (ss : List Step) (due : IsRebuildDue l p plan) where

@@ -1,5 +1,5 @@
 -- What an update stores and answers, by its plan.
-use Rattle.std.specs.Prelude.{◌≡◌, ℕ, suc, ◌+◌, ◌-◌, ◌*◌, ◌<◌, ◌≤◌, ◌⊎◌, Bool, nat_lt, List, [], ◌∷◌, ◌++◌, length, map, MatchBool, set, slice_index, true}
+use Rattle.std.specs.Prelude.{◌≡◌, ℕ, suc, ◌+◌, ◌-◌, ◌*◌, ◌<◌, ◌≤◌, ◌⊎◌, Bool, nat_lt, List, [], ◌∷◌, ◌++◌, length, map, MatchBool, set, slice_index, true, false}
 use Rattle.std.specs.Vec.{with_item}
 use Rattle.ck_run.specs.declared.account.Step.{Step}
 use Rattle.ck_run.specs.declared.account.Step.TheVariants.{Load, Store}
@@ -16,11 +16,11 @@ use Rattle.ck_slots.specs.Counting.{rebuilt_log}
 use Rattle.ck_htplan.specs.declared.cases.Plan.{Plan}
 use Rattle.ck_htplan.specs.declared.cases.Plan.TheVariants.{Empty, Reuse, Stand, Move}
 use Rattle.ck_htplan.specs.Region.{low_of, high_of}
-use Rattle.ck_htlaw.specs.Calls.{opening_of}
+use Rattle.ck_htlaw.specs.Calls.{opening_of, set as setting, put as putting}
 use Rattle.ck_htlaw.specs.Stages.{Insertion, Target, empty, Stage, idle, after_rebuild}
 use Rattle.ck_htlaw.specs.Layout.{log_of}
 use Rattle.ck_htlaw.specs.Table.{Layout, WriterState, Action, count}
-use Rattle.ck_htlaw.specs.Actions.{most, action, adds, answer_to, by_call, keys_now, plan_now, tombstones_now}
+use Rattle.ck_htlaw.specs.Actions.{most, action, adds, answer_to, by_call, keys_now, plan_now, put_reply, set_reply, tombstones_now}
 use Rattle.ck_htlaw.specs.Client.{Answers}
 use Rattle.ck_htlaw.specs.Host.{Host, lies}
 use Rattle.ck_htlaw.specs.Known.{knows}
@@ -89,6 +89,11 @@ MayBegin g opens = ⊥
 -- the call goes on after its rebuild, and then a fresh key goes into an empty slot
 abbrev pub AddsFresh : List ℕ → ℕ → ℕ → Type 0
 AddsFresh opens key value = (l : Layout) (p : WriterState) (at : ℕ) → plan_now l p key ≡ Empty at → (word : ℕ) → by_call l p (opening_of opens) word ≡ adds l p empty (record { key = key; number = value; to = at }) word
+
+-- how a `put` opens, or else a `set`
+abbrev pub storing : Bool → ℕ → ℕ → List ℕ
+storing true key value = putting ∷ key ∷ value ∷ []
+storing false key value = setting ∷ key ∷ value ∷ []
 
 -- what the call answers, which is settled at its first step
 abbrev pub settled_answer : Layout → WriterState → Stage → List ℕ → LogEntry ℕ → LogEntry ℕ
@@ -159,6 +164,15 @@ module _ (l : Layout) (p : WriterState) where
   PutSteps key value (Reuse at) ss = ReuseSteps key value at ss
   PutSteps key value (Stand at) ss = Asks l ss
   PutSteps key value (Move to from) ss = Asks l ss
+
+  -- those of `put`, which keeps the value of a key that is present, or else of `set`; and the answer
+  abbrev pub StoreSteps : Bool → ℕ → ℕ → Plan → List Step → Type 0
+  StoreSteps true = PutSteps
+  StoreSteps false = SetSteps
+
+  abbrev pub store_reply : Bool → Plan → Reply
+  store_reply true = put_reply l p
+  store_reply false = set_reply l p
 
   abbrev pub RemoveSteps : Plan → List Step → Type 0
   RemoveSteps (Empty at) ss = Asks l ss

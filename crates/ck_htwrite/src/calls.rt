@@ -22,7 +22,7 @@ ghost use Rattle.ck_htwrite.specs.State.{IsReady, Ready, next_count};
 ghost use Rattle.ck_htwrite.specs.Updates.{SetSteps, PutSteps, RemoveSteps, IsIn, HasStates, IsNeeded, IsRebuildDue, Makes, needed_log};
 ghost use Rattle.ck_htwrite.specs.Writes.{WriterIs, counters_in, opened};
 
-use crate::cases::{plan_for, put_by, remove_by, set_by};
+use crate::cases::{plan_for, remove_by, store_by};
 use crate::state::{HtState, Need};
 use ck_epoch::{Domain, Within, Writer};
 use ck_history::{Key, Reply};
@@ -89,7 +89,7 @@ pub fn set<D: Within<HtClient>, F>(
     ensures ready { Ready (host D.meaning D.place D.part) domain.now.origin writer.new state.new }
 {
     let plan = first_plan(domain, writer, state, key);
-    let reply = set_by::<D, F, Brand>(domain, writer, state, plan, key, value)?;
+    let reply = store_by::<D, F, Brand>(domain, writer, state, plan, key, value, false)?;
     count_update(writer);
     Ok(reply)
 }
@@ -121,7 +121,7 @@ pub fn put<D: Within<HtClient>, F>(
     ensures ready { Ready (host D.meaning D.place D.part) domain.now.origin writer.new state.new }
 {
     let plan = first_plan(domain, writer, state, key);
-    let reply = put_by::<D, F, Brand>(domain, writer, state, plan, key, value)?;
+    let reply = store_by::<D, F, Brand>(domain, writer, state, plan, key, value, true)?;
     count_update(writer);
     Ok(reply)
 }

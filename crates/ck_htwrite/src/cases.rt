@@ -5,19 +5,20 @@ ghost use Rattle.ck_slots.specs.Counting.{rebuilt_log};
 ghost use Rattle.ck_epoch.specs.State.{state as epochs};
 ghost use Rattle.ck_htplan.specs.declared.cases.Plan.TheVariants.{Empty};
 ghost use Rattle.ck_htplan.specs.Region.{view_of};
-ghost use Rattle.ck_htlaw.specs.Calls.{set as setting, put as putting, remove as removing};
+ghost use Rattle.ck_htlaw.specs.Calls.{remove as removing};
 ghost use Rattle.ck_htlaw.specs.Host.{host, lies};
 ghost use Rattle.ck_htlaw.specs.Stages.{reuse as reusing};
 ghost use Rattle.ck_htlaw.specs.Layout.{log_of};
 ghost use Rattle.ck_htlaw.specs.Table.{WriterState};
-ghost use Rattle.ck_htlaw.specs.Actions.{added, plan_now, set_reply, put_reply, remove_reply};
+ghost use Rattle.ck_htlaw.specs.Actions.{added, plan_now, remove_reply};
 ghost use Rattle.ck_arena.specs.Arena.{unreturned};
 ghost use Rattle.ck_htwrite.specs.Arena.{IsKept};
 ghost use Rattle.ck_htwrite.specs.Rebuild.{GoesOnAfter};
 ghost use Rattle.ck_htwrite.specs.State.{Reflects, IsReady, next_count};
-ghost use Rattle.ck_htwrite.specs.Updates.{AddsFresh, IsDone, IsGrown, IsIn, HasStates, IsAdding, IsNeeded, IsMade, InsertSteps, ReuseSteps, SetSteps, PutSteps, RemoveSteps};
+ghost use Rattle.ck_htwrite.specs.Updates.{AddsFresh, IsDone, IsGrown, IsIn, HasStates, IsAdding, IsNeeded, IsMade, InsertSteps, ReuseSteps, RemoveSteps, StoreSteps, storing, store_reply};
 ghost use Rattle.ck_htwrite.specs.Writes.{counters_in};
 
+use crate::copies::word_in;
 use crate::growth::rebuild;
 use crate::state::{HtState, Need};
 use crate::updates::{VALUE, delete, insert, move_key, reuse};
@@ -41,14 +42,6 @@ pub(crate) fn plan_for<D: Within<HtClient>>(domain: &Domain<D>, state: &HtState,
 {
     let hash = key_code(low_word(key), high_word(key), domain.client().inner().seed);
     plan(&state.words, state.root % 32, hash, key)
-}
-
-// The value of the slot `at`, as the lists have it.
-fn value_at(state: &HtState, at: u64) -> u64
-    requires slot { 4 * at + 3 < length state.now.words.items }
-    ensures { result ≡ (view_of state.now.words.items).value at }
-{
-    state.words[(4 * at + VALUE) as usize]
 }
 
 // The logarithm of the slots after a rebuild for a fresh key: one more where more than half of the slots would be full.
@@ -163,74 +156,48 @@ fn add_reused<D: Within<HtClient>, F, O: Opens>(
     Reply::Fresh
 }
 
-// `set` by its plan.
-pub(crate) fn set_by<D: Within<HtClient>, F, O: Opens>(
+// `set` by its plan, or `put`, which keeps the value of a key that is present, also where a tombstone stands before it.
+pub(crate) fn store_by<D: Within<HtClient>, F, O: Opens>(
     domain: &Domain<D>,
     writer: &mut Writer<D, F>,
     state: &mut HtState,
     plan: Plan,
     key: Key,
     value: u64,
+    keeps: bool,
 ) -> Result<Reply, Need>
     requires table { table writer.old.token ≡ domain.now }
     requires calls { writer.old.calls < 2 ^ 40 }
     requires room { length (epochs writer.old.token).pending + length writer.old.waiting < writer.old.room }
     requires arena { IsKept (counters_in (host D.meaning D.place D.part) domain.now.origin) (D.place domain.now.origin.config.client) state.old.root (unreturned (epochs writer.old.token) writer.old.waiting) state.old.arena }
-    requires name { O.opens ≡ setting ∷ key ∷ value ∷ [] }
+    requires name { O.opens ≡ storing keeps key value }
     requires inside { IsIn (2 ^ log_of state.old.root) plan }
     requires states { HasStates (view_of state.old.words.items) plan }
     requires small { next_count (counters_in (host D.meaning D.place D.part) domain.now.origin) state.old < 2 ^ 62 }
     requires due { (r : IsReady (host D.meaning D.place D.part) domain.now.origin writer.old.token state.old) × (plan_now (lies (host D.meaning D.place D.part) domain.now.origin) r.is_writer key ≡ plan) }
-    ensures made { (r : IsReady (host D.meaning D.place D.part) domain.now.origin writer.old.token state.old) → plan_now (lies (host D.meaning D.place D.part) domain.now.origin) r.is_writer key ≡ plan → MatchResult result (λ reply. IsDone (host D.meaning D.place D.part) domain.now.origin r.is_writer (set_reply (lies (host D.meaning D.place D.part) domain.now.origin) r.is_writer plan) (SetSteps (lies (host D.meaning D.place D.part) domain.now.origin) r.is_writer key value plan) plan O.opens key value writer.old reply writer.new state.old state.new) (λ need. IsNeeded (host D.meaning D.place D.part) domain.now.origin r.is_writer plan state.old need) }
+    ensures made { (r : IsReady (host D.meaning D.place D.part) domain.now.origin writer.old.token state.old) → plan_now (lies (host D.meaning D.place D.part) domain.now.origin) r.is_writer key ≡ plan → MatchResult result (λ reply. IsDone (host D.meaning D.place D.part) domain.now.origin r.is_writer (store_reply (lies (host D.meaning D.place D.part) domain.now.origin) r.is_writer keeps plan) (StoreSteps (lies (host D.meaning D.place D.part) domain.now.origin) r.is_writer keeps key value plan) plan O.opens key value writer.old reply writer.new state.old state.new) (λ need. IsNeeded (host D.meaning D.place D.part) domain.now.origin r.is_writer plan state.old need) }
     ensures same { IfErr result (λ need. (writer.new ≡ writer.old) × (state.new ≡ state.old)) }
 {
     match plan {
         Plan::Empty { at } => add_empty::<D, F, O>(domain, writer, state, at, key, value),
         Plan::Reuse { at } => Ok(add_reused::<D, F, O>(domain, writer, state, at, key, value)),
         Plan::Stand { at } => {
-            let was = value_at(state, at);
+            let was = word_in(&state.words, at, VALUE);
+            if keeps {
+                ask_root::<D, F, O>(domain, writer);
+                return Ok(Reply::Has(was));
+            }
             put_word::<D, F, O>(domain, writer, state, at, VALUE, value);
             Ok(Reply::Was(was))
         }
         Plan::Move { to, from } => {
-            let was = value_at(state, from);
+            let was = word_in(&state.words, from, VALUE);
+            if keeps {
+                ask_root::<D, F, O>(domain, writer);
+                return Ok(Reply::Has(was));
+            }
             move_key::<D, F, O>(domain, writer, state, to, from, key, value);
             Ok(Reply::Was(was))
-        }
-    }
-}
-
-// `put` by its plan. A key that is present keeps its value, also where a tombstone stands before it.
-pub(crate) fn put_by<D: Within<HtClient>, F, O: Opens>(
-    domain: &Domain<D>,
-    writer: &mut Writer<D, F>,
-    state: &mut HtState,
-    plan: Plan,
-    key: Key,
-    value: u64,
-) -> Result<Reply, Need>
-    requires table { table writer.old.token ≡ domain.now }
-    requires calls { writer.old.calls < 2 ^ 40 }
-    requires room { length (epochs writer.old.token).pending + length writer.old.waiting < writer.old.room }
-    requires arena { IsKept (counters_in (host D.meaning D.place D.part) domain.now.origin) (D.place domain.now.origin.config.client) state.old.root (unreturned (epochs writer.old.token) writer.old.waiting) state.old.arena }
-    requires name { O.opens ≡ putting ∷ key ∷ value ∷ [] }
-    requires inside { IsIn (2 ^ log_of state.old.root) plan }
-    requires states { HasStates (view_of state.old.words.items) plan }
-    requires small { next_count (counters_in (host D.meaning D.place D.part) domain.now.origin) state.old < 2 ^ 62 }
-    requires due { (r : IsReady (host D.meaning D.place D.part) domain.now.origin writer.old.token state.old) × (plan_now (lies (host D.meaning D.place D.part) domain.now.origin) r.is_writer key ≡ plan) }
-    ensures made { (r : IsReady (host D.meaning D.place D.part) domain.now.origin writer.old.token state.old) → plan_now (lies (host D.meaning D.place D.part) domain.now.origin) r.is_writer key ≡ plan → MatchResult result (λ reply. IsDone (host D.meaning D.place D.part) domain.now.origin r.is_writer (put_reply (lies (host D.meaning D.place D.part) domain.now.origin) r.is_writer plan) (PutSteps (lies (host D.meaning D.place D.part) domain.now.origin) r.is_writer key value plan) plan O.opens key value writer.old reply writer.new state.old state.new) (λ need. IsNeeded (host D.meaning D.place D.part) domain.now.origin r.is_writer plan state.old need) }
-    ensures same { IfErr result (λ need. (writer.new ≡ writer.old) × (state.new ≡ state.old)) }
-{
-    match plan {
-        Plan::Empty { at } => add_empty::<D, F, O>(domain, writer, state, at, key, value),
-        Plan::Reuse { at } => Ok(add_reused::<D, F, O>(domain, writer, state, at, key, value)),
-        Plan::Stand { at } => {
-            ask_root::<D, F, O>(domain, writer);
-            Ok(Reply::Has(value_at(state, at)))
-        }
-        Plan::Move { from, .. } => {
-            ask_root::<D, F, O>(domain, writer);
-            Ok(Reply::Has(value_at(state, from)))
         }
     }
 }
@@ -254,21 +221,12 @@ pub(crate) fn remove_by<D: Within<HtClient>, F, O: Opens>(
 {
     let _key = key;
     match plan {
-        Plan::Stand { at } => {
-            let was = value_at(state, at);
+        Plan::Stand { at } | Plan::Move { from: at, .. } => {
+            let was = word_in(&state.words, at, VALUE);
             delete::<D, F, O>(domain, writer, state, at);
             Reply::Was(was)
         }
-        Plan::Move { from, .. } => {
-            let was = value_at(state, from);
-            delete::<D, F, O>(domain, writer, state, from);
-            Reply::Was(was)
-        }
-        Plan::Empty { .. } => {
-            ask_root::<D, F, O>(domain, writer);
-            Reply::Missing
-        }
-        Plan::Reuse { .. } => {
+        Plan::Empty { .. } | Plan::Reuse { .. } => {
             ask_root::<D, F, O>(domain, writer);
             Reply::Missing
         }

@@ -2,5 +2,5 @@ use Rattle.std.proofs.Common.{[], ◌∷◌}
 use Rattle.ck_htlaw.specs.Calls.{put}
 use Rattle.ck_htwrite.proofs.calls.put.Given as goal
 
-abbrev pub ghosts-put_by : goal.ghosts-put_by
-ghosts-put_by g a = record { opens = put ∷ a.key ∷ a.value ∷ [] }
+abbrev pub ghosts-store_by : goal.ghosts-store_by
+ghosts-store_by g a = record { opens = put ∷ a.key ∷ a.value ∷ [] }

@@ -16,11 +16,11 @@ use Rattle.ck_htwrite.proofs.calls.set.Goals.{In_ok-reply}
 pub first_plan-plan-requires-clause-calls : goal.first_plan-plan-requires-clause-calls
 first_plan-plan-requires-clause-calls g c = let few = c.requires.calls in omega arith
 
-pub set_by-requires-clause-calls : goal.set_by-requires-clause-calls
-set_by-requires-clause-calls g c = let few = c.requires.calls in omega arith
+pub store_by-requires-clause-calls : goal.store_by-requires-clause-calls
+store_by-requires-clause-calls g c = let few = c.requires.calls in omega arith
 
-pub set_by-requires-clause-due : goal.set_by-requires-clause-due
-set_by-requires-clause-due g c = let r = c.requires.ready.lists in (r, c.first_plan-plan.ensures.plan r)
+pub store_by-requires-clause-due : goal.store_by-requires-clause-due
+store_by-requires-clause-due g c = let r = c.requires.ready.lists in (r, c.first_plan-plan.ensures.plan r)
 
 pub returns-in_err-reply-clause-need : goal.returns-in_err-reply-clause-need
 returns-in_err-reply-clause-need g c =
@@ -31,16 +31,16 @@ returns-in_err-reply-clause-need g c =
     (λ need alike. needed h o key c.args.value w s g.met.D.Within.within (ap (λ v. v.origin) c.requires.table) first.ensures.writing ready first.result planned need (subst (IsNeeded h o r.is_writer first.result s) (sym alike) (c.in_err-reply.ensures.made r planned)))
 
 over : (g : given.Over) (c : In_ok-reply g) → let h = host g.D.Client.meaning g.D.Within.place g.D.Within.part in let o = c.args.domain.now.origin in
-    IsSettled h o c.args.key c.args.value c.args.writer.now c.args.state.now (set ∷ c.args.key ∷ c.args.value ∷ []) (Set c.args.key c.args.value) (λ q. SetSteps (lies h o) q c.args.key c.args.value) c.in_ok-reply.reply c.set_by.new.writer c.set_by.new.state
+    IsSettled h o c.args.key c.args.value c.args.writer.now c.args.state.now (set ∷ c.args.key ∷ c.args.value ∷ []) (Set c.args.key c.args.value) (λ q. SetSteps (lies h o) q c.args.key c.args.value) c.in_ok-reply.reply c.store_by.new.writer c.store_by.new.state
 over g c =
     let h = host g.D.Client.meaning g.D.Within.place g.D.Within.part in let o = c.args.domain.now.origin in let l = lies h o in let key : ℕ = c.args.key in let value : ℕ = c.args.value in
     let first = c.first_plan-plan in let r = c.requires.ready.lists in let planned = first.ensures.plan r in
     settled h o key value c.args.writer.now c.args.state.now g.met.D.Within.within (ap (λ v. v.origin) c.requires.table) first.ensures.writing c.requires.ready (set ∷ key ∷ value ∷ []) (Set key value) (set_reply l) (λ q. SetSteps l q key value) refl
-    first.result planned (not_due_set l r.is_writer key value first.result) c.in_ok-reply.reply c.set_by.new.writer c.set_by.new.state (c.in_ok-reply.ensures.made r planned)
+    first.result planned (not_due_set l r.is_writer key value first.result) c.in_ok-reply.reply c.store_by.new.writer c.store_by.new.state (c.in_ok-reply.ensures.made r planned)
 
 pub count_update-requires : goal.count_update-requires
 count_update-requires g c =
-    let a = over g (goal.at.count_update-requires g c).In_ok-reply in let few = c.requires.calls in let more : c.set_by.new.writer.calls ≤ c.args.writer.now.calls + 1 = a.0 in record { calls = omega arith; few = a.1 }
+    let a = over g (goal.at.count_update-requires g c).In_ok-reply in let few = c.requires.calls in let more : c.store_by.new.writer.calls ≤ c.args.writer.now.calls + 1 = a.0 in record { calls = omega arith; few = a.1 }
 
 pub returns : goal.returns
 returns g c =

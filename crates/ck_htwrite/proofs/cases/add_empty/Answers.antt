@@ -1,9 +1,9 @@
-use Rattle.std.proofs.Common.{◌≡◌, ℕ, ◌<◌, Bool, false, nat_le, arith}
-use Rattle.std.proofs.lemmas.Bool.Decides.{nat_tests}
+use Rattle.std.proofs.Common.{ℕ, sym, ◌∙◌, arith}
 use Rattle.ck_htlaw.specs.Host.{host}
 use Rattle.ck_htlaw.specs.Stages.{empty}
 use Rattle.ck_htwrite.proofs.ByPlan.{adds_empty, few_keys, few_tombstones, insert_full, inserted_now, may_ask_full, may_insert_now}
 use Rattle.ck_htwrite.proofs.Made.{done_grown}
+use Rattle.ck_htwrite.proofs.Plans.{over_full}
 use Rattle.ck_htwrite.proofs.cases.add_empty.Goals as goal
 
 pub ask_root-requires-clause-due : goal.ask_root-requires-clause-due
@@ -21,11 +21,8 @@ is_roomy-requires-clause-tombstones g c = few_tombstones _ _ c.args.writer.now _
 pub is_roomy-requires-clause-keys : goal.is_roomy-requires-clause-keys
 is_roomy-requires-clause-keys g c = few_keys _ _ c.args.writer.now _ c.requires.due.0
 
-over_full : (b : Bool) (x y : ℕ) → b ≡ nat_le x y → b ≡ false → y < x
-over_full b x y e f = grind (arith, nat_tests)
-
 pub add_grown-requires-clause-full : goal.add_grown-requires-clause-full
-add_grown-requires-clause-full g c = over_full c.is_roomy.result _ _ c.is_roomy.ensures c.if-not-is_roomy.true
+add_grown-requires-clause-full g c = over_full _ _ (sym c.is_roomy.ensures ∙ c.if-not-is_roomy.true)
 
 pub add_grown-requires-clause-due : goal.add_grown-requires-clause-due
 add_grown-requires-clause-due g c = (c.requires.due.0, c.args.at, c.requires.due.1)
