@@ -1,11 +1,10 @@
 -- The stores of a case, one after the other: which may come next, and what they are together. Each names the root as the lists have it then.
-use Rattle.std.proofs.Common.{◌≡◌, ℕ, ◌+◌, ◌*◌, ◌/◌, List, [], ◌∷◌, ◌++◌, map, refl, sym, ap, ◌∙◌, subst}
+use Rattle.std.proofs.Common.{◌≡◌, ℕ, ◌+◌, ◌*◌, ◌/◌, List, [], ◌∷◌, ◌++◌, map, sym, ap, ◌∙◌, subst}
 use Rattle.ck_run.specs.declared.account.Step.TheVariants.{Store}
 use Rattle.ck_run.specs.declared.account.Entry.{Entry}
 use Rattle.ck_run.specs.Run.{entry, further}
 use Rattle.ck_epoch.specs.State.{Origin}
 use Rattle.ck_epoch.specs.Ends.{Writer}
-use Rattle.ck_htplan.specs.Region.{low_of, high_of}
 use Rattle.ck_htlaw.specs.Host.{Host, lies}
 use Rattle.ck_htlaw.specs.Table.{Layout}
 use Rattle.ck_htwrite.specs.declared.state.HtState.{HtState}
@@ -56,81 +55,34 @@ module _ {D : Type 0} (h : Host D) (o : Origin D) where
         all_four f3 is3 w4 step3 = steps_then h o w w1 w4 (e0 ∷ []) (e1 ∷ e2 ∷ e3 ∷ []) first_step (steps_then h o w1 w2 w4 (e1 ∷ []) (e2 ∷ e3 ∷ []) second_step
             (steps_then h o w2 w3 w4 (e2 ∷ []) (e3 ∷ []) third_step (subst (λ (e : Entry). Steps h o w3 (e ∷ []) w4) is3 step3)))
 
-  -- A pair is stored in a slot of a region that is being built
-  module _ {F : Type 0} (root at low high value : ℕ) (w : Writer D F) (due : MayMake h o w.token (map further (pair_steps l root at low high value))) where
-    abbrev stored : ℕ → ℕ → Entry
-    stored j x = further (Store (l.base + (root / 32 + 4 * at + j)) x)
+  -- A pair is stored in a slot
+  module _ {F : Type 0} (opens : List ℕ) (root at low high value : ℕ) (w : Writer D F) (due : MayMake h o w.token (opened opens (pair_steps l root at low high value))) where
+    abbrev stored : List ℕ → ℕ → ℕ → Entry
+    stored os j x = entry os (Store (l.base + (root / 32 + 4 * at + j)) x)
 
-    abbrev in_word : ℕ → ℕ → Entry
-    in_word j x = further (Store (l.word root at j) x)
+    abbrev in_word : List ℕ → ℕ → ℕ → Entry
+    in_word os j x = entry os (Store (l.word root at j) x)
 
-    stored_is : (j x : ℕ) → stored j x ≡ in_word j x
-    stored_is j x = ap (λ (a : ℕ). further (Store a x)) (new_word l.base root at j)
+    stored_is : (os : List ℕ) (j x : ℕ) → stored os j x ≡ in_word os j x
+    stored_is os j x = ap (λ (a : ℕ). entry os (Store a x)) (new_word l.base root at j)
 
-    pub may_pair_value : MayStep h o w.token (stored 3 value)
-    may_pair_value = subst (MayStep h o w.token) (sym (stored_is 3 value)) (may_first h o w.token (in_word 3 value) (in_word 1 low ∷ in_word 2 high ∷ in_word 0 1 ∷ []) due)
+    pub may_pair_value : MayStep h o w.token (stored opens 3 value)
+    may_pair_value = subst (MayStep h o w.token) (sym (stored_is opens 3 value)) (may_first h o w.token (in_word opens 3 value) (in_word [] 1 low ∷ in_word [] 2 high ∷ in_word [] 0 1 ∷ []) due)
 
-    module _ (w1 : Writer D F) (step0 : Steps h o w (stored 3 value ∷ []) w1) where
-      pub may_pair_low : MayStep h o w1.token (stored 1 low)
-      may_pair_low = may_second (in_word 3 value) (in_word 1 low) (in_word 2 high) (in_word 0 1) w due (stored 3 value) (stored_is 3 value) w1 step0 (stored 1 low) (stored_is 1 low)
+    module _ (w1 : Writer D F) (step0 : Steps h o w (stored opens 3 value ∷ []) w1) where
+      pub may_pair_low : MayStep h o w1.token (stored [] 1 low)
+      may_pair_low = may_second (in_word opens 3 value) (in_word [] 1 low) (in_word [] 2 high) (in_word [] 0 1) w due (stored opens 3 value) (stored_is opens 3 value) w1 step0 (stored [] 1 low) (stored_is [] 1 low)
 
-      module _ (w2 : Writer D F) (step1 : Steps h o w1 (stored 1 low ∷ []) w2) where
-        pub may_pair_high : MayStep h o w2.token (stored 2 high)
-        may_pair_high = may_third (in_word 3 value) (in_word 1 low) (in_word 2 high) (in_word 0 1) w due (stored 3 value) (stored_is 3 value) w1 step0 (stored 1 low) (stored_is 1 low) w2 step1 (stored 2 high) (stored_is 2 high)
+      module _ (w2 : Writer D F) (step1 : Steps h o w1 (stored [] 1 low ∷ []) w2) where
+        pub may_pair_high : MayStep h o w2.token (stored [] 2 high)
+        may_pair_high = may_third (in_word opens 3 value) (in_word [] 1 low) (in_word [] 2 high) (in_word [] 0 1) w due (stored opens 3 value) (stored_is opens 3 value) w1 step0 (stored [] 1 low) (stored_is [] 1 low) w2 step1 (stored [] 2 high) (stored_is [] 2 high)
 
-        module _ (w3 : Writer D F) (step2 : Steps h o w2 (stored 2 high ∷ []) w3) where
-          pub may_pair_state : MayStep h o w3.token (stored 0 1)
-          may_pair_state = may_fourth (in_word 3 value) (in_word 1 low) (in_word 2 high) (in_word 0 1) w due (stored 3 value) (stored_is 3 value) w1 step0 (stored 1 low) (stored_is 1 low) w2 step1 (stored 2 high) (stored_is 2 high) w3 step2 (stored 0 1) (stored_is 0 1)
+        module _ (w3 : Writer D F) (step2 : Steps h o w2 (stored [] 2 high ∷ []) w3) where
+          pub may_pair_state : MayStep h o w3.token (stored [] 0 1)
+          may_pair_state = may_fourth (in_word opens 3 value) (in_word [] 1 low) (in_word [] 2 high) (in_word [] 0 1) w due (stored opens 3 value) (stored_is opens 3 value) w1 step0 (stored [] 1 low) (stored_is [] 1 low) w2 step1 (stored [] 2 high) (stored_is [] 2 high) w3 step2 (stored [] 0 1) (stored_is [] 0 1)
 
-          pub paired : (w4 : Writer D F) → Steps h o w3 (stored 0 1 ∷ []) w4 → Steps h o w (map further (pair_steps l root at low high value)) w4
-          paired = all_four (in_word 3 value) (in_word 1 low) (in_word 2 high) (in_word 0 1) w due (stored 3 value) (stored_is 3 value) w1 step0 (stored 1 low) (stored_is 1 low) w2 step1 (stored 2 high) (stored_is 2 high) w3 step2 (stored 0 1) (stored_is 0 1)
-
-  -- A slot of the present region gets its value, its key and its state
-  module _ {F : Type 0} (opens : List ℕ) (at key value : ℕ) (w : Writer D F) (s : HtState) (due : MayMake h o w.token (opened opens (insert_steps l s.root at key value))) where
-    abbrev e0 : Entry
-    e0 = entry opens (Store (l.word s.root at 3) value)
-
-    abbrev e1 : Entry
-    e1 = further (Store (l.word s.root at 1) (low_of key))
-
-    abbrev e2 : Entry
-    e2 = further (Store (l.word s.root at 2) (high_of key))
-
-    abbrev e3 : Entry
-    e3 = further (Store (l.word s.root at 0) 1)
-
-    module _ (w1 : Writer D F) (s1 : HtState) (step0 : Steps h o w (e0 ∷ []) w1) (root1 : s1.root ≡ s.root) (low : ℕ) (low_is : low ≡ low_of key) where
-      abbrev f1 : Entry
-      f1 = further (Store (l.word s1.root at 1) low)
-
-      is1 : f1 ≡ e1
-      is1 = λ i. further (Store (l.word (root1 i) at 1) (low_is i))
-
-      pub may_low : MayStep h o w1.token f1
-      may_low = may_second e0 e1 e2 e3 w due e0 refl w1 step0 f1 is1
-
-      module _ (w2 : Writer D F) (s2 : HtState) (step1 : Steps h o w1 (f1 ∷ []) w2) (root2 : s2.root ≡ s1.root) (high : ℕ) (high_is : high ≡ high_of key) where
-        abbrev f2 : Entry
-        f2 = further (Store (l.word s2.root at 2) high)
-
-        is2 : f2 ≡ e2
-        is2 = λ i. further (Store (l.word ((root2 ∙ root1) i) at 2) (high_is i))
-
-        pub may_high : MayStep h o w2.token f2
-        may_high = may_third e0 e1 e2 e3 w due e0 refl w1 step0 f1 is1 w2 step1 f2 is2
-
-        module _ (w3 : Writer D F) (s3 : HtState) (step2 : Steps h o w2 (f2 ∷ []) w3) (root3 : s3.root ≡ s2.root) where
-          abbrev f3 : Entry
-          f3 = further (Store (l.word s3.root at 0) 1)
-
-          is3 : f3 ≡ e3
-          is3 = ap (λ (r : ℕ). further (Store (l.word r at 0) 1)) (root3 ∙ (root2 ∙ root1))
-
-          pub may_state : MayStep h o w3.token f3
-          may_state = may_fourth e0 e1 e2 e3 w due e0 refl w1 step0 f1 is1 w2 step1 f2 is2 w3 step2 f3 is3
-
-          pub placed : (w4 : Writer D F) → Steps h o w3 (f3 ∷ []) w4 → Steps h o w (opened opens (insert_steps l s.root at key value)) w4
-          placed = all_four e0 e1 e2 e3 w due e0 refl w1 step0 f1 is1 w2 step1 f2 is2 w3 step2 f3 is3
+          pub paired : (w4 : Writer D F) → Steps h o w3 (stored [] 0 1 ∷ []) w4 → Steps h o w (opened opens (pair_steps l root at low high value)) w4
+          paired = all_four (in_word opens 3 value) (in_word [] 1 low) (in_word [] 2 high) (in_word [] 0 1) w due (stored opens 3 value) (stored_is opens 3 value) w1 step0 (stored [] 1 low) (stored_is [] 1 low) w2 step1 (stored [] 2 high) (stored_is [] 2 high) w3 step2 (stored [] 0 1) (stored_is [] 0 1)
 
   -- A bump, the stores of a slot, and what comes then
   module _ {F : Type 0} (opens : List ℕ) (at key value : ℕ) (rest : List Entry) (w : Writer D F) (s : HtState) (due : MayMake h o w.token (entry opens (Store (l.counter s.root) (next_count n s)) ∷ map further (insert_steps l s.root at key value) ++ rest))

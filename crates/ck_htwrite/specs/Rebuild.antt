@@ -1,5 +1,6 @@
 -- A rebuild: what the writer stores in a region that isn't published, and what holds of it meanwhile.
 use Rattle.std.specs.Prelude.{◌≡◌, ◌≢◌, ℕ, zero, suc, ◌+◌, ◌*◌, ◌^◌, ◌<◌, ◌≤◌, ◌⊎◌, List, [], ◌∷◌, ◌++◌, length, slice_index}
+use Rattle.std.specs.Global.{Vec}
 use Rattle.std.specs.Vec.{with_item}
 use Rattle.ck_run.specs.declared.account.Step.{Step}
 use Rattle.ck_run.specs.declared.account.Step.TheVariants.{Load, Store}
@@ -35,9 +36,12 @@ clear_steps l root i (suc n) = Store (l.word root i 0) 0 ∷ clear_steps l root 
 abbrev pub pair_steps : Layout → ℕ → ℕ → ℕ → ℕ → ℕ → List Step
 pair_steps l root at low high value = Store (l.word root at 3) value ∷ Store (l.word root at 1) low ∷ Store (l.word root at 2) high ∷ Store (l.word root at 0) 1 ∷ []
 
--- the other copy with a pair more in one of its slots
+-- a copy of a region with this pair in one of its slots, and the lists with it in the other copy
+abbrev pub with_pair : Vec ℕ → ℕ → ℕ → ℕ → ℕ → Vec ℕ
+with_pair words at low high value = with_item (with_item (with_item (with_item words (4 * at + 3) value) (4 * at + 1) low) (4 * at + 2) high) (4 * at + 0) 1
+
 abbrev pub paired_lists : HtState → ℕ → ℕ → ℕ → ℕ → HtState
-paired_lists s at low high value = record s { spare = with_item (with_item (with_item (with_item s.spare (4 * at + 3) value) (4 * at + 1) low) (4 * at + 2) high) (4 * at + 0) 1 }
+paired_lists s at low high value = record s { spare = with_pair s.spare at low high value }
 
 -- the lists once the other copy is that of the present region
 abbrev pub adopted_lists : HtState → ℕ → HtState

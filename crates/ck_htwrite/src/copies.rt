@@ -1,6 +1,5 @@
 //! How the pairs of the present region are copied into one that isn't published.
 ghost use Rattle.std.specs.Prelude.{◌≡◌, ℕ, ◌+◌, ◌*◌, ◌^◌, ◌<◌, ◌≤◌, List, length, map, slice_index};
-ghost use Rattle.std.specs.Vec.{with_item};
 ghost use Rattle.ck_run.specs.declared.account.Step.{Step};
 ghost use Rattle.ck_run.specs.Run.{further};
 ghost use Rattle.ck_run.specs.Tokens.{table};
@@ -10,7 +9,7 @@ ghost use Rattle.ck_htlaw.specs.Host.{host, lies};
 ghost use Rattle.ck_htlaw.specs.Known.{knows};
 ghost use Rattle.ck_htlaw.specs.Layout.{log_of};
 ghost use Rattle.ck_htlaw.specs.Table.{WriterState};
-ghost use Rattle.ck_htwrite.specs.Rebuild.{CanHoldAll, CopiesAt};
+ghost use Rattle.ck_htwrite.specs.Rebuild.{CanHoldAll, CopiesAt, with_pair};
 ghost use Rattle.ck_htwrite.specs.Writes.{counters_in, Steps};
 
 use crate::rebuild::{first_empty, store_pair};
@@ -19,6 +18,7 @@ use crate::updates::{FULL, HIGH, LOW, STATE, VALUE};
 use ck_epoch::{Domain, Within, Writer};
 use ck_htlaw::HtClient;
 use ck_probe::key_code;
+use ck_run::Continues;
 
 // The words of a slot.
 const SLOT: u64 = 4;
@@ -31,11 +31,11 @@ pub(crate) fn word_in(words: &Vec<u64>, at: u64, j: u64) -> u64
     words[(SLOT * at + j) as usize]
 }
 
-// Puts a pair into the slot `at`.
-fn put_pair(words: &mut Vec<u64>, at: u64, low: u64, high: u64, value: u64)
+// Puts a pair into the slot `at` of a copy.
+pub(crate) fn put_pair(words: &mut Vec<u64>, at: u64, low: u64, high: u64, value: u64)
     requires slot { 4 * at + 3 < length words.old.items }
     requires few { at < 524288 }
-    ensures { words.new ≡ with_item (with_item (with_item (with_item words.old (4 * at + 3) value) (4 * at + 1) low) (4 * at + 2) high) (4 * at + 0) 1 }
+    ensures { words.new ≡ with_pair words.old at low high value }
 {
     let first = SLOT * at;
     words[(first + VALUE) as usize] = value;
@@ -70,7 +70,7 @@ fn copy_slot<D: Within<HtClient>, F>(
     let value = word_in(&state.words, i, VALUE);
     let hash = key_code(low, high, domain.client().inner().seed);
     let to = first_empty(&state.spare, root % 32, hash);
-    store_pair(domain, writer, root, to, low, high, value);
+    store_pair::<D, F, Continues>(domain, writer, root, to, low, high, value);
     put_pair(&mut state.spare, to, low, high, value);
 }
 

@@ -15,7 +15,7 @@ ghost use Rattle.ck_htlaw.specs.Regions.{IsReplaced};
 ghost use Rattle.ck_htlaw.specs.Stages.{idle};
 ghost use Rattle.ck_htlaw.specs.Table.{WriterState, released, released_log};
 ghost use Rattle.ck_htwrite.specs.Rebuild.{BeginsRebuildAt, clear_steps, pair_steps};
-ghost use Rattle.ck_htwrite.specs.Writes.{counters_in, IsFreeBy, MayMake, MayStep, Steps, WriterAt, WriterIs};
+ghost use Rattle.ck_htwrite.specs.Writes.{counters_in, opened, IsFreeBy, MayMake, MayStep, Steps, WriterAt, WriterIs};
 
 use crate::updates::{FULL, HIGH, LOW, STATE, VALUE};
 use crate::writes::store;
@@ -62,8 +62,9 @@ pub(crate) fn clear_rest<D: Within<HtClient>, F>(
     }
 }
 
-// Stores a pair in the slot `at` of the new region. No look has its root yet.
-pub(crate) fn store_pair<D: Within<HtClient>, F>(
+// Stores a pair in the slot `at` of the region of this root: its value, then its key, and it is full then, so that a look that loaded 1 finds all
+// its words.
+pub(crate) fn store_pair<D: Within<HtClient>, F, O: Opens>(
     domain: &Domain<D>,
     writer: &mut Writer<D, F>,
     root: u64,
@@ -75,11 +76,11 @@ pub(crate) fn store_pair<D: Within<HtClient>, F>(
     requires table { table writer.old.token ≡ domain.now }
     requires root { IsRoot (counters_in (host D.meaning D.place D.part) domain.now.origin) root }
     requires slot { at < 2 ^ log_of root }
-    requires due { MayMake (host D.meaning D.place D.part) domain.now.origin writer.old.token (map further (pair_steps (lies (host D.meaning D.place D.part) domain.now.origin) root at low high value)) }
-    ensures steps { Steps (host D.meaning D.place D.part) domain.now.origin writer.old (map further (pair_steps (lies (host D.meaning D.place D.part) domain.now.origin) root at low high value)) writer.new }
+    requires due { MayMake (host D.meaning D.place D.part) domain.now.origin writer.old.token (opened O.opens (pair_steps (lies (host D.meaning D.place D.part) domain.now.origin) root at low high value)) }
+    ensures steps { Steps (host D.meaning D.place D.part) domain.now.origin writer.old (opened O.opens (pair_steps (lies (host D.meaning D.place D.part) domain.now.origin) root at low high value)) writer.new }
 {
     let first = root / 32 + SLOT * at;
-    store::<D, F, Continues>(domain, writer, first + VALUE, value);
+    store::<D, F, O>(domain, writer, first + VALUE, value);
     store::<D, F, Continues>(domain, writer, first + LOW, low);
     store::<D, F, Continues>(domain, writer, first + HIGH, high);
     store::<D, F, Continues>(domain, writer, first + STATE, FULL);

@@ -7,6 +7,8 @@ ghost use Rattle.ck_htwrite.specs.State.{IsShaped, next_count};
 ghost use Rattle.ck_htwrite.specs.Updates.{insert_steps, reuse_steps, move_steps, remove_steps, valued_lists, keyed_lists, inserted_lists, reused_lists, moved_lists, removed_lists};
 ghost use Rattle.ck_htwrite.specs.Writes.{counters_in, opened, MayMake, Steps};
 
+use crate::copies::put_pair;
+use crate::rebuild::store_pair;
 use crate::state::HtState;
 use crate::writes::{bump, put_word};
 use ck_epoch::{Domain, Within, Writer};
@@ -29,7 +31,7 @@ pub(crate) const FULL: u64 = 1;
 
 pub(crate) const TOMBSTONE: u64 = 2;
 
-// A slot gets its value, then its key, and is full then: a look that loaded 1 finds all its words.
+// A slot of the present region gets this pair, and so does the copy.
 fn place<D: Within<HtClient>, F, O: Opens>(
     domain: &Domain<D>,
     writer: &mut Writer<D, F>,
@@ -45,10 +47,9 @@ fn place<D: Within<HtClient>, F, O: Opens>(
     ensures steps { Steps (host D.meaning D.place D.part) domain.now.origin writer.old (opened O.opens (insert_steps (lies (host D.meaning D.place D.part) domain.now.origin) state.old.root at key value)) writer.new }
     ensures state { state.new ≡ keyed_lists (valued_lists state.old at value) at key }
 {
-    put_word::<D, F, O>(domain, writer, state, at, VALUE, value);
-    put_word::<D, F, Continues>(domain, writer, state, at, LOW, low_word(key));
-    put_word::<D, F, Continues>(domain, writer, state, at, HIGH, high_word(key));
-    put_word::<D, F, Continues>(domain, writer, state, at, STATE, FULL);
+    let (low, high) = (low_word(key), high_word(key));
+    store_pair::<D, F, O>(domain, writer, state.root, at, low, high, value);
+    put_pair(&mut state.words, at, low, high, value);
 }
 
 // A fresh key takes an empty slot. Looks stopped at it, so no counter is raised.
