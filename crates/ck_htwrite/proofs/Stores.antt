@@ -23,40 +23,9 @@ module _ {D : Type 0} (h : Host D) (o : Origin D) where
   abbrev n : ℕ
   n = counters_in h o
 
-  -- Four steps, each as the code writes it
-  module _ {F : Type 0} (e0 e1 e2 e3 : Entry) (w : Writer D F) (due : MayMake h o w.token (e0 ∷ e1 ∷ e2 ∷ e3 ∷ [])) (f0 : Entry) (is0 : f0 ≡ e0) (w1 : Writer D F) (step0 : Steps h o w (f0 ∷ []) w1) where
-    first_step : Steps h o w (e0 ∷ []) w1
-    first_step = subst (λ (e : Entry). Steps h o w (e ∷ []) w1) is0 step0
-
-    left1 : MayMake h o w1.token (e1 ∷ e2 ∷ e3 ∷ [])
-    left1 = may_rest h o w w1 e0 (e1 ∷ e2 ∷ e3 ∷ []) due first_step
-
-    pub may_second : (f1 : Entry) → f1 ≡ e1 → MayStep h o w1.token f1
-    may_second f1 is1 = subst (MayStep h o w1.token) (sym is1) (may_first h o w1.token e1 (e2 ∷ e3 ∷ []) left1)
-
-    module _ (f1 : Entry) (is1 : f1 ≡ e1) (w2 : Writer D F) (step1 : Steps h o w1 (f1 ∷ []) w2) where
-      second_step : Steps h o w1 (e1 ∷ []) w2
-      second_step = subst (λ (e : Entry). Steps h o w1 (e ∷ []) w2) is1 step1
-
-      left2 : MayMake h o w2.token (e2 ∷ e3 ∷ [])
-      left2 = may_rest h o w1 w2 e1 (e2 ∷ e3 ∷ []) left1 second_step
-
-      pub may_third : (f2 : Entry) → f2 ≡ e2 → MayStep h o w2.token f2
-      may_third f2 is2 = subst (MayStep h o w2.token) (sym is2) (may_first h o w2.token e2 (e3 ∷ []) left2)
-
-      module _ (f2 : Entry) (is2 : f2 ≡ e2) (w3 : Writer D F) (step2 : Steps h o w2 (f2 ∷ []) w3) where
-        third_step : Steps h o w2 (e2 ∷ []) w3
-        third_step = subst (λ (e : Entry). Steps h o w2 (e ∷ []) w3) is2 step2
-
-        pub may_fourth : (f3 : Entry) → f3 ≡ e3 → MayStep h o w3.token f3
-        may_fourth f3 is3 = subst (MayStep h o w3.token) (sym is3) (may_first h o w3.token e3 [] (may_rest h o w2 w3 e2 (e3 ∷ []) left2 third_step))
-
-        pub all_four : (f3 : Entry) → f3 ≡ e3 → (w4 : Writer D F) → Steps h o w3 (f3 ∷ []) w4 → Steps h o w (e0 ∷ e1 ∷ e2 ∷ e3 ∷ []) w4
-        all_four f3 is3 w4 step3 = steps_then h o w w1 w4 (e0 ∷ []) (e1 ∷ e2 ∷ e3 ∷ []) first_step (steps_then h o w1 w2 w4 (e1 ∷ []) (e2 ∷ e3 ∷ []) second_step
-            (steps_then h o w2 w3 w4 (e2 ∷ []) (e3 ∷ []) third_step (subst (λ (e : Entry). Steps h o w3 (e ∷ []) w4) is3 step3)))
-
   -- A pair is stored in a slot
   module _ {F : Type 0} (opens : List ℕ) (root at low high value : ℕ) (w : Writer D F) (due : MayMake h o w.token (opened opens (pair_steps l root at low high value))) where
+    -- a store as the code writes it, and as the law has it
     abbrev stored : List ℕ → ℕ → ℕ → Entry
     stored os j x = entry os (Store (l.base + (root / 32 + 4 * at + j)) x)
 
@@ -66,23 +35,42 @@ module _ {D : Type 0} (h : Host D) (o : Origin D) where
     stored_is : (os : List ℕ) (j x : ℕ) → stored os j x ≡ in_word os j x
     stored_is os j x = ap (λ (a : ℕ). entry os (Store a x)) (new_word l.base root at j)
 
+    may_store : (v : Writer D F) (os : List ℕ) (j x : ℕ) (rest : List Entry) → MayMake h o v.token (in_word os j x ∷ rest) → MayStep h o v.token (stored os j x)
+    may_store v os j x rest left = subst (MayStep h o v.token) (sym (stored_is os j x)) (may_first h o v.token (in_word os j x) rest left)
+
+    step_is : (v v' : Writer D F) (os : List ℕ) (j x : ℕ) → Steps h o v (stored os j x ∷ []) v' → Steps h o v (in_word os j x ∷ []) v'
+    step_is v v' os j x = subst (λ (e : Entry). Steps h o v (e ∷ []) v') (stored_is os j x)
+
+    abbrev after_value : List Entry
+    after_value = in_word [] 1 low ∷ in_word [] 2 high ∷ in_word [] 0 1 ∷ []
+
+    abbrev after_low : List Entry
+    after_low = in_word [] 2 high ∷ in_word [] 0 1 ∷ []
+
     pub may_pair_value : MayStep h o w.token (stored opens 3 value)
-    may_pair_value = subst (MayStep h o w.token) (sym (stored_is opens 3 value)) (may_first h o w.token (in_word opens 3 value) (in_word [] 1 low ∷ in_word [] 2 high ∷ in_word [] 0 1 ∷ []) due)
+    may_pair_value = may_store w opens 3 value after_value due
 
     module _ (w1 : Writer D F) (step0 : Steps h o w (stored opens 3 value ∷ []) w1) where
+      left1 : MayMake h o w1.token after_value
+      left1 = may_rest h o w w1 (in_word opens 3 value) after_value due (step_is w w1 opens 3 value step0)
+
       pub may_pair_low : MayStep h o w1.token (stored [] 1 low)
-      may_pair_low = may_second (in_word opens 3 value) (in_word [] 1 low) (in_word [] 2 high) (in_word [] 0 1) w due (stored opens 3 value) (stored_is opens 3 value) w1 step0 (stored [] 1 low) (stored_is [] 1 low)
+      may_pair_low = may_store w1 [] 1 low after_low left1
 
       module _ (w2 : Writer D F) (step1 : Steps h o w1 (stored [] 1 low ∷ []) w2) where
+        left2 : MayMake h o w2.token after_low
+        left2 = may_rest h o w1 w2 (in_word [] 1 low) after_low left1 (step_is w1 w2 [] 1 low step1)
+
         pub may_pair_high : MayStep h o w2.token (stored [] 2 high)
-        may_pair_high = may_third (in_word opens 3 value) (in_word [] 1 low) (in_word [] 2 high) (in_word [] 0 1) w due (stored opens 3 value) (stored_is opens 3 value) w1 step0 (stored [] 1 low) (stored_is [] 1 low) w2 step1 (stored [] 2 high) (stored_is [] 2 high)
+        may_pair_high = may_store w2 [] 2 high (in_word [] 0 1 ∷ []) left2
 
         module _ (w3 : Writer D F) (step2 : Steps h o w2 (stored [] 2 high ∷ []) w3) where
           pub may_pair_state : MayStep h o w3.token (stored [] 0 1)
-          may_pair_state = may_fourth (in_word opens 3 value) (in_word [] 1 low) (in_word [] 2 high) (in_word [] 0 1) w due (stored opens 3 value) (stored_is opens 3 value) w1 step0 (stored [] 1 low) (stored_is [] 1 low) w2 step1 (stored [] 2 high) (stored_is [] 2 high) w3 step2 (stored [] 0 1) (stored_is [] 0 1)
+          may_pair_state = may_store w3 [] 0 1 [] (may_rest h o w2 w3 (in_word [] 2 high) (in_word [] 0 1 ∷ []) left2 (step_is w2 w3 [] 2 high step2))
 
           pub paired : (w4 : Writer D F) → Steps h o w3 (stored [] 0 1 ∷ []) w4 → Steps h o w (opened opens (pair_steps l root at low high value)) w4
-          paired = all_four (in_word opens 3 value) (in_word [] 1 low) (in_word [] 2 high) (in_word [] 0 1) w due (stored opens 3 value) (stored_is opens 3 value) w1 step0 (stored [] 1 low) (stored_is [] 1 low) w2 step1 (stored [] 2 high) (stored_is [] 2 high) w3 step2 (stored [] 0 1) (stored_is [] 0 1)
+          paired w4 step3 = steps_then h o w w1 w4 (in_word opens 3 value ∷ []) after_value (step_is w w1 opens 3 value step0) (steps_then h o w1 w2 w4 (in_word [] 1 low ∷ []) after_low (step_is w1 w2 [] 1 low step1)
+              (steps_then h o w2 w3 w4 (in_word [] 2 high ∷ []) (in_word [] 0 1 ∷ []) (step_is w2 w3 [] 2 high step2) (step_is w3 w4 [] 0 1 step3)))
 
   -- A bump, the stores of a slot, and what comes then
   module _ {F : Type 0} (opens : List ℕ) (at key value : ℕ) (rest : List Entry) (w : Writer D F) (s : HtState) (due : MayMake h o w.token (entry opens (Store (l.counter s.root) (next_count n s)) ∷ map further (insert_steps l s.root at key value) ++ rest))
