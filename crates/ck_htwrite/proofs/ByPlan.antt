@@ -1,5 +1,5 @@
 -- What `set`, `put` and `remove` do by their plan, from the writer between two calls.
-use Rattle.std.proofs.Common.{◌≡◌, ℕ, ◌+◌, ◌*◌, ◌^◌, ◌<◌, List, [], ◌∷◌, length, refl, ap, sym, ◌∙◌, subst, arith, inl, ◌≤◌, Bool, true, false, nat_le}
+use Rattle.std.proofs.Common.{◌≡◌, ℕ, ◌+◌, ◌*◌, ◌^◌, ◌<◌, List, [], ◌∷◌, length, refl, ap, sym, ◌∙◌, subst, arith, inl, inr, ◌≤◌, Bool, true, false, nat_le}
 use Rattle.std.specs.Prelude.{MatchResult}
 use Rattle.std.specs.declared.result.Result.{Result}
 use Rattle.ck_run.specs.declared.account.Step.{Step}
@@ -202,7 +202,7 @@ module _ {D F : Type 0} (h : Host D) (o : Origin D) (w : Writer D F) (s : HtStat
 
         pub set_stand : (x : ℕ) → x ≡ (view_of s.words.items).value at → (w' : Writer D F) (s' : HtState) → Steps h o w (entry opens (Store (l.word s.root at 3) value) ∷ []) w' → s' ≡ valued_lists s at value → IsDone h o p (set_reply l p plan) (SetSteps l p key value plan) plan opens key value w (Was x) w' s s'
         set_stand x was w' s' steps then = done_by plan (Stand at) is (set_reply l p) (SetSteps l p key value) (Was x) w' s'
-            (made_stand h o w w' s s' r opens key value at (in_case (Stand at) is) sets (states_of (Stand at) is) _ _ (ap Was (value_is h o w w s s r opens at (in_case (Stand at) is) (states_of (Stand at) is) x was)) steps then)
+            (made_stand h o w w' s s' r opens key value at (in_case (Stand at) is) sets (states_of (Stand at) is) _ _ (ap Was (had at (inl is) x was)) steps then)
             (ap (λ (z : HtState). z.root) then, ap (λ (z : HtState). z.arena) then)
 
       -- and where a tombstone comes before it
@@ -215,7 +215,7 @@ module _ {D F : Type 0} (h : Host D) (o : Origin D) (w : Writer D F) (s : HtStat
 
         pub set_move : (x : ℕ) → x ≡ (view_of s.words.items).value from → (w' : Writer D F) (s' : HtState) → Steps h o w (opened opens (move_steps l s.root to from key value (next_count n s))) w' → s' ≡ moved_lists n s to from key value → IsDone h o p (set_reply l p plan) (SetSteps l p key value plan) plan opens key value w (Was x) w' s s'
         set_move x was w' s' steps then = done_by plan (Move to from) is (set_reply l p) (SetSteps l p key value) (Was x) w' s'
-            (made_move h o w w' s s' r opens key value to from (in_case (Move to from) is).0 (in_case (Move to from) is).1 moves (states_of (Move to from) is).0 (states_of (Move to from) is).1 _ _ (ap Was (value_is h o w w s s r opens from (in_case (Move to from) is).1 (states_of (Move to from) is).1 x was)) steps then)
+            (made_move h o w w' s s' r opens key value to from (in_case (Move to from) is).0 (in_case (Move to from) is).1 moves (states_of (Move to from) is).0 (states_of (Move to from) is).1 _ _ (ap Was (had from (inr (to, is)) x was)) steps then)
             (ap (λ (z : HtState). z.root) then, ap (λ (z : HtState). z.arena) then)
 
     -- `remove` stores nothing where its key is missing

@@ -18,7 +18,8 @@ use Rattle.ck_htlaw.specs.Client.{Answers, answers_next, due_at, orders_of}
 use Rattle.ck_htlaw.proofs.Tokens.{is_inside}
 use Rattle.ck_htwrite.specs.declared.state.HtState.{HtState}
 use Rattle.ck_htwrite.specs.State.{Mirrors, Reflects, next_count}
-use Rattle.ck_htwrite.specs.Updates.{key_steps, keyed_words, insert_steps, reuse_steps, move_steps, remove_steps, bumped_lists, valued_lists, keyed_lists, buried_lists, inserted_lists, reused_lists, moved_lists, removed_lists, MayBegin, settled_answer, IsOver}
+use Rattle.ck_htwrite.specs.Rebuild.{key_steps}
+use Rattle.ck_htwrite.specs.Updates.{keyed_words, insert_steps, reuse_steps, move_steps, remove_steps, bumped_lists, valued_lists, keyed_lists, buried_lists, inserted_lists, reused_lists, moved_lists, removed_lists, MayBegin, settled_answer, IsOver}
 use Rattle.ck_htwrite.specs.Writes.{WriterAt, CanMake, IsPlainStep, opened, writer_after}
 use Rattle.ck_htwrite.proofs.Slots.{word_in, counter_low}
 use Rattle.ck_htwrite.proofs.Shapes.{bumped_again}
@@ -139,7 +140,7 @@ module _ (floor base : ℕ) (client : HtClient) where
       pub can_insert : CanMake l p (opened opens (insert_steps l s.root at key value))
       can_insert = (
         plain_first l p opens begins (inserts empty w) (Store (l.word s.root at 3) value) (does _) (own_word at few 3 value (omega arith)) (word_now at 3, refl) (λ r t. t),
-        subst (λ (x : WriterState). CanMake l x (map further (key_steps l s.root at key))) (sym next0)
+        subst (λ (x : WriterState). CanMake l x (map further (key_steps l s.root at (low_of key) (high_of key)))) (sym next0)
             (can_key l q empty w s.root at key h.root refl refl (own_word at few) (λ x y e. refl) (λ x y e. refl) [] tt),
       )
 
@@ -214,7 +215,7 @@ module _ (floor base : ℕ) (client : HtClient) where
       rw = v reuse key value at few
 
       pub can_reuse : CanMake l p (opened opens (reuse_steps l s.root at key value (next_count n s)))
-      can_reuse = can_bump reuse key value at few does (counter_now, count_now) (λ k. refl) (map further (key_steps l s.root at key))
+      can_reuse = can_bump reuse key value at few does (counter_now, count_now) (λ k. refl) (map further (key_steps l s.root at (low_of key) (high_of key)))
           (can_key l rq reuse rw s.root at key h.root refl refl (own_word at few) (λ x y e. refl) (λ x y e. refl) [] tt)
 
       module _ (was : (view_of s.words.items).state at ≡ 2) where
@@ -348,7 +349,7 @@ module _ (floor base : ℕ) (client : HtClient) where
       moved_state = record second_state { stage = idle; log = suc p.log; words = set second_state.words (l.word s.root from 0) 2 }
 
       pub can_move : CanMake l p (opened opens (move_steps l s.root to from key value (next_count n s)))
-      can_move = can_bump (move from) key value to few does (counter_now, count_now) (λ k. refl) (map further (key_steps l s.root to key) ++ f1 ∷ f2 ∷ [])
+      can_move = can_bump (move from) key value to few does (counter_now, count_now) (λ k. refl) (map further (key_steps l s.root to (low_of key) (high_of key)) ++ f1 ∷ f2 ∷ [])
           (can_key l mq (move from) mw s.root to key h.root refl refl (own_word to few) (λ x y e. refl) (λ x y e. refl) (f1 ∷ f2 ∷ []) (
             record { own = own_counter (next_count n s + 1); may = (counter_now, twice_count); goes = refl; takes_none = λ r t. t },
             (record { own = own_word from low 0 2 (omega arith); may = (word_now from 0, refl); goes = refl; takes_none = λ r t. t }, tt),

@@ -32,9 +32,12 @@ abbrev pub clear_steps : Layout → ℕ → ℕ → ℕ → List Step
 clear_steps l root i zero = []
 clear_steps l root i (suc n) = Store (l.word root i 0) 0 ∷ clear_steps l root (suc i) n
 
--- the stores of a pair in a slot, its key by the two words
+-- the stores by which a slot that has its value gets its key, by the two words, and is full then; and those of a whole pair
+abbrev pub key_steps : Layout → ℕ → ℕ → ℕ → ℕ → List Step
+key_steps l root at low high = Store (l.word root at 1) low ∷ Store (l.word root at 2) high ∷ Store (l.word root at 0) 1 ∷ []
+
 abbrev pub pair_steps : Layout → ℕ → ℕ → ℕ → ℕ → ℕ → List Step
-pair_steps l root at low high value = Store (l.word root at 3) value ∷ Store (l.word root at 1) low ∷ Store (l.word root at 2) high ∷ Store (l.word root at 0) 1 ∷ []
+pair_steps l root at low high value = Store (l.word root at 3) value ∷ key_steps l root at low high
 
 -- a copy of a region with this pair in one of its slots, and the lists with it in the other copy
 abbrev pub with_pair : Vec ℕ → ℕ → ℕ → ℕ → ℕ → Vec ℕ

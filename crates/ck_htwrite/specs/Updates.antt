@@ -28,22 +28,18 @@ use Rattle.ck_htwrite.specs.declared.state.HtState.{HtState}
 use Rattle.ck_htwrite.specs.declared.state.Need.{Need}
 use Rattle.ck_arena.specs.Arena.{HasNoneFree, unreturned}
 use Rattle.ck_htwrite.specs.Arena.{AddsRegion, IsKept}
-use Rattle.ck_htwrite.specs.Rebuild.{rebuild_entries}
+use Rattle.ck_htwrite.specs.Rebuild.{pair_steps, rebuild_entries}
 use Rattle.ck_htwrite.specs.State.{counter_at, next_count, Mirrors, Reflects}
 use Rattle.ck_htwrite.specs.Writes.{counters_in, opened, Steps, WriterAt}
 
--- the stores by which a slot that has its value gets its key, and is full then
-abbrev pub key_steps : Layout → ℕ → ℕ → ℕ → List Step
-key_steps l root at key = Store (l.word root at 1) (low_of key) ∷ Store (l.word root at 2) (high_of key) ∷ Store (l.word root at 0) 1 ∷ []
-
--- the words after them
+-- the words after a slot got its key
 abbrev pub keyed_words : Layout → ℕ → ℕ → ℕ → List ℕ → List ℕ
 keyed_words l root at key words = set (set (set words (l.word root at 1) (low_of key)) (l.word root at 2) (high_of key)) (l.word root at 0) 1
 
 -- The steps of the cases of an update, where a bump stores this number in the counter: a fresh key takes an empty slot, or a tombstone;
 -- a present one moves to an earlier tombstone; a key is removed
 abbrev pub insert_steps : Layout → ℕ → ℕ → ℕ → ℕ → List Step
-insert_steps l root at key value = Store (l.word root at 3) value ∷ key_steps l root at key
+insert_steps l root at key value = pair_steps l root at (low_of key) (high_of key) value
 
 abbrev pub reuse_steps : Layout → ℕ → ℕ → ℕ → ℕ → ℕ → List Step
 reuse_steps l root at key value count = Store (l.counter root) count ∷ insert_steps l root at key value
