@@ -148,26 +148,22 @@ module _ {D : Type 0} (host : Host D) (o : Origin D) where
     pub one_retried : before ≢ after → (v : Token D) → v ≡ u → retries_of (knows host o v).local ≡ retries_of (knows host o t).local + 1
     one_retried e v is = ap (λ (v : Token D). retries_of (knows host o v).local) is ∙ (ap retries_of h.at.local ∙ (ap (λ (b : Bool). cond b (retries_of (knows host o t).local) (suc (retries_of (knows host o t).local))) (ne_eqb before after e) ∙ plus_one (retries_of (knows host o t).local)))
 
-    -- where the pass is then, by its tally
-    pub between_answered : before ≡ after → (p q : Pass D) → IsBetweenLooks host o p → p.token ≡ t → q.token ≡ u → q.tally ≡ p.tally + 1 → q.calls ≡ p.calls + 1 → IsBetweenLooks host o q
-    between_answered e p q was is_t is_u tally calls = record {
+    -- where the pass is then, by its tally and the looks that are answered now
+    between_then : (more : List (ℕ × Option ℕ)) → (knows host o u).looks ≡ (knows host o t).looks ++ more → (p q : Pass D) → IsBetweenLooks host o p → p.token ≡ t → q.token ≡ u → q.tally ≡ p.tally + length more → q.calls ≡ p.calls + length more → IsBetweenLooks host o q
+    between_then more looks p q was is_t is_u tally calls = record {
       reader_state = y;
       local = ap (λ (v : Token D). (knows host o v).local) is_u ∙ h.at.local;
       outside = refl;
-      tally = (let n = ap (λ (v : Token D). length (knows host o v).looks) is_u ∙ (ap length (looks_more e) ∙ length-append (knows host o t).looks ((key, found) ∷ [])) in
+      tally = (let n = ap (λ (v : Token D). length (knows host o v).looks) is_u ∙ (ap length looks ∙ length-append (knows host o t).looks more) in
           let m = was.tally ∙ ap (λ (v : Token D). length (knows host o v).looks) is_t in omega arith);
       few = (let f = was.few in omega arith);
     }
 
-    pub between_retried : before ≢ after → (p q : Pass D) → IsBetweenLooks host o p → p.token ≡ t → q.token ≡ u → q.tally ≡ p.tally → q.calls ≡ p.calls → IsBetweenLooks host o q
-    between_retried e p q was is_t is_u tally calls = record {
-      reader_state = y;
-      local = ap (λ (v : Token D). (knows host o v).local) is_u ∙ h.at.local;
-      outside = refl;
-      tally = (let n = ap (λ (v : Token D). length (knows host o v).looks) is_u ∙ (ap length (looks_same e) ∙ ap length (append-nil (knows host o t).looks)) in
-          let m = was.tally ∙ ap (λ (v : Token D). length (knows host o v).looks) is_t in omega arith);
-      few = (let f = was.few in omega arith);
-    }
+    pub between_answered : before ≡ after → (p q : Pass D) → IsBetweenLooks host o p → p.token ≡ t → q.token ≡ u → q.tally ≡ p.tally + 1 → q.calls ≡ p.calls + 1 → IsBetweenLooks host o q
+    between_answered e = between_then ((key, found) ∷ []) (looks_more e)
+
+    pub between_retried : before ≢ after → (p q : Pass D) → IsBetweenLooks host o p → p.token ≡ t → q.token ≡ u → q.tally ≡ p.tally + 0 → q.calls ≡ p.calls + 0 → IsBetweenLooks host o q
+    between_retried e = between_then [] (looks_same e)
 
     -- the answer has a place
     pub answered : PlacesLaw host o → before ≡ after → (v : Token D) → v ≡ u → (x : Option ℕ) → found ≡ x → HasAnswered host o v (length (knows host o t).looks) key x

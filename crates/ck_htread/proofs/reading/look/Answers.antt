@@ -9,7 +9,7 @@ pub returns-then-loads-clause-between : goal.returns-then-loads-clause-between
 returns-then-loads-clause-between g c =
     let l = c.load_look-loads in
     between_retried (host g.D.Client.meaning g.D.Within.place g.D.Within.part) c.args.domain.now.origin c.args.key c.args.pass.now.token l.new.pass.token l.result.before l.result.after l.result.found l.ensures.loads
-    c.if-loads.true c.args.pass.now l.new.pass c.requires.between refl refl (ap (λ q. q.tally) l.ensures.same) (ap (λ q. q.calls) l.ensures.same)
+    c.if-loads.true c.args.pass.now l.new.pass c.requires.between refl refl (let same = ap (λ q. q.tally) l.ensures.same in omega arith) (let same = ap (λ q. q.calls) l.ensures.same in omega arith)
 
 pub returns-clause-placed : goal.returns-clause-placed
 returns-clause-placed g c x is =
