@@ -13,7 +13,7 @@ use Rattle.ck_htlaw.specs.declared.client.HtClient.{HtClient}
 use Rattle.ck_htlaw.specs.Stages.{idle, copying, retiring, retiring_at_end}
 use Rattle.ck_htlaw.specs.Calls.{opening_of}
 use Rattle.ck_htlaw.specs.Layout.{log_of, counters_of, layout}
-use Rattle.ck_htlaw.specs.Table.{Layout, WriterState, Action, publishes, tidies, no_action, second, repeated, is_table_word, MayWriterStep}
+use Rattle.ck_htlaw.specs.Table.{Layout, WriterState, Action, no_action, second, repeated, is_table_word, MayWriterStep}
 use Rattle.ck_htlaw.specs.Actions.{action, slots_now, to_copy, when_copied}
 use Rattle.ck_htplan.specs.Deciding.{next_full}
 use Rattle.ck_htlaw.specs.Client.{Answers, answers_next, orders_of}
@@ -82,25 +82,11 @@ module _ (floor base : ℕ) (client : HtClient) where
 
       -- the store of the root, after which the writer is there
       module _ (does : Action) (is : when_copied l here (opening_of call) ≡ does) (then : WriterState) (after : record (second l [] here does (copying call root j idle)) { words = published_words } ≡ then) where
-        root_step : MayWriterStep l here does (copying call root j idle) e.step → (Free : ℕ → Type 0) → IsNextStep l Free here e
-        root_step may Free = record { may = subst (λ (a : Action). MayWriterStep l here a (copying call root j idle) e.step) (sym (about ∙ is)) may; goes = refl; takes = λ r t. absurd t }
+        pub publish_step : MayWriterStep l here does (copying call root j idle) e.step → (Free : ℕ → Type 0) → IsNextStep l Free here e
+        publish_step may Free = record { may = subst (λ (a : Action). MayWriterStep l here a (copying call root j idle) e.step) (sym (about ∙ is)) may; goes = refl; takes = λ r t. absurd t }
 
-        root_at : then.log ≡ p.log → (a : Answers) (d : LogEntry ℕ) (told : List (LogEntry ℕ)) → WriterAt a here d told → WriterAt (answers_next l a e) then d told
-        root_at same a d told at = goes_on l a here then d d told e at own ((λ z. record (second l [] here ((about ∙ is) z) (copying call root j idle)) { words = published_words }) ∙ after) refl same
-
-      module _ (is : when_copied l here (opening_of call) ≡ publishes) where
-        pub publish_step : (Free : ℕ → Type 0) → IsNextStep l Free here e
-        publish_step = root_step publishes is goes_on_with refl (refl, refl)
-
-        pub publish_at : (a : Answers) (d : LogEntry ℕ) (told : List (LogEntry ℕ)) → WriterAt a here d told → WriterAt (answers_next l a e) goes_on_with d told
-        publish_at = root_at publishes is goes_on_with refl refl
-
-      module _ (is : when_copied l here (opening_of call) ≡ tidies) where
-        pub tidy_step : (Free : ℕ → Type 0) → IsNextStep l Free here e
-        tidy_step = root_step tidies is ends_with refl (refl, refl)
-
-        pub tidy_at : (a : Answers) (d : LogEntry ℕ) (told : List (LogEntry ℕ)) → WriterAt a here d told → WriterAt (answers_next l a e) ends_with d told
-        tidy_at = root_at tidies is ends_with refl refl
+        pub publish_at : then.log ≡ p.log → (a : Answers) (d : LogEntry ℕ) (told : List (LogEntry ℕ)) → WriterAt a here d told → WriterAt (answers_next l a e) then d told
+        publish_at same a d told at = goes_on l a here then d d told e at own ((λ z. record (second l [] here ((about ∙ is) z) (copying call root j idle)) { words = published_words }) ∙ after) refl same
 
     -- the lists of the new region
     off_root : (t k : ℕ) → l.word root t k ≢ base

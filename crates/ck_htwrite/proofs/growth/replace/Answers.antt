@@ -10,12 +10,12 @@ use Rattle.ck_htlaw.specs.Host.{host, first, inner, lies}
 use Rattle.ck_htlaw.specs.Known.{knows}
 use Rattle.ck_htlaw.specs.Layout.{region_item}
 use Rattle.ck_htlaw.specs.Stages.{idle, copying, after_rebuild}
-use Rattle.ck_htlaw.specs.Table.{WriterState}
+use Rattle.ck_htlaw.specs.Table.{WriterState, publishes, tidies}
 use Rattle.ck_htwrite.specs.declared.state.HtState.{HtState}
 use Rattle.ck_htwrite.specs.Rebuild.{GoesOnAfter, EndsAfter, adopted_lists}
 use Rattle.ck_htwrite.specs.State.{Reflects}
 use Rattle.ck_htwrite.specs.Writes.{counters_in, IsFreeBy, WriterAt}
-use Rattle.ck_htwrite.proofs.Published.{goes_on_with, ends_with, publish_step, publish_at, tidy_step, tidy_at, adopted}
+use Rattle.ck_htwrite.proofs.Published.{goes_on_with, ends_with, publish_step, publish_at, adopted}
 use Rattle.ck_htwrite.proofs.Chains.{then_counted}
 use Rattle.ck_htwrite.proofs.Writing.{not_less, one_less}
 use Rattle.ck_htwrite.proofs.growth.replace.Goals as goal
@@ -25,8 +25,8 @@ publish-requires-clause-due g c =
     let h = host g.D.Client.meaning g.D.Within.place g.D.Within.part in let o = c.args.domain.now.origin in let client = (inner h o).config.client in let fl = base_of (inner h o) in let ba = first h o in let n = counters_in h o in let l = lies h o in let w0 = c.args.writer.now in let s = c.args.state.now in let root : ℕ = c.args.root in let can = c.requires.can in
     let d = c.requires.due in let p = d.0 in let call = d.1 in let k = d.4 in
     let here : WriterState = record p { stage = copying call root k.next idle; words = k.words } in
-    ⊎_elim (λ (x : GoesOnAfter l call). (here, k.at.local, publish_step fl ba client p s root can k.words k.next k.is_copying call (x here) (IsFreeBy h o w0.token here)))
-    (λ (x : EndsAfter l call). (here, k.at.local, tidy_step fl ba client p s root can k.words k.next k.is_copying call (x here) (IsFreeBy h o w0.token here)))
+    ⊎_elim (λ (x : GoesOnAfter l call). (here, k.at.local, publish_step fl ba client p s root can k.words k.next k.is_copying call publishes (x here) _ refl (refl, refl) (IsFreeBy h o w0.token here)))
+    (λ (x : EndsAfter l call). (here, k.at.local, publish_step fl ba client p s root can k.words k.next k.is_copying call tidies (x here) _ refl (refl, refl) (IsFreeBy h o w0.token here)))
     d.5
 
 pub retire-requires-clause-table : goal.retire-requires-clause-table
@@ -48,9 +48,9 @@ retire-requires-clause-due g c =
     let h = host g.D.Client.meaning g.D.Within.place g.D.Within.part in let o = c.args.domain.now.origin in let client = (inner h o).config.client in let fl = base_of (inner h o) in let ba = first h o in let n = counters_in h o in let l = lies h o in let w0 = c.args.writer.now in let s = c.args.state.now in let root : ℕ = c.args.root in let can = c.requires.can in
     let d = c.requires.due in let p = d.0 in let call = d.1 in let k = d.4 in let here : WriterState = record p { stage = copying call root k.next idle; words = k.words } in
     ⊎_elim
-    (λ (x : GoesOnAfter l call). let at = subst (λ a. WriterAt a (goes_on_with fl ba client p s root can k.words k.next k.is_copying call) d.2 d.3) (sym c.publish.ensures.step.knows_now) (publish_at fl ba client p s root can k.words k.next k.is_copying call (x here) (knows h o w0.token) d.2 d.3 k.at) in
+    (λ (x : GoesOnAfter l call). let at = subst (λ a. WriterAt a (goes_on_with fl ba client p s root can k.words k.next k.is_copying call) d.2 d.3) (sym c.publish.ensures.step.knows_now) (publish_at fl ba client p s root can k.words k.next k.is_copying call publishes (x here) (goes_on_with fl ba client p s root can k.words k.next k.is_copying call) refl refl (knows h o w0.token) d.2 d.3 k.at) in
     (goes_on_with fl ba client p s root can k.words k.next k.is_copying call, at.local, sym k.is_copying.lists.root))
-    (λ (x : EndsAfter l call). let at = subst (λ a. WriterAt a (ends_with fl ba client p s root can k.words k.next k.is_copying call) d.2 d.3) (sym c.publish.ensures.step.knows_now) (tidy_at fl ba client p s root can k.words k.next k.is_copying call (x here) (knows h o w0.token) d.2 d.3 k.at) in
+    (λ (x : EndsAfter l call). let at = subst (λ a. WriterAt a (ends_with fl ba client p s root can k.words k.next k.is_copying call) d.2 d.3) (sym c.publish.ensures.step.knows_now) (publish_at fl ba client p s root can k.words k.next k.is_copying call tidies (x here) (ends_with fl ba client p s root can k.words k.next k.is_copying call) refl refl (knows h o w0.token) d.2 d.3 k.at) in
     (ends_with fl ba client p s root can k.words k.next k.is_copying call, at.local, sym k.is_copying.lists.root))
     d.5
 
@@ -61,7 +61,7 @@ returns-clause-goes_on g c p call due told k x =
     let q = goes_on_with fl ba client p s root can k.words k.next k.is_copying call in
     let now : WriterState = record q { stage = after_rebuild call; log = p.log } in
     let lists : Reflects n l now (adopted_lists s root) = adopted fl ba client p s root can k.words k.next k.is_copying now refl refl refl in
-    let at = subst (λ a. WriterAt a q due told) (sym c.publish.ensures.step.knows_now) (publish_at fl ba client p s root can k.words k.next k.is_copying call (x here) (knows h o w0.token) due told k.at) in
+    let at = subst (λ a. WriterAt a q due told) (sym c.publish.ensures.step.knows_now) (publish_at fl ba client p s root can k.words k.next k.is_copying call publishes (x here) (goes_on_with fl ba client p s root can k.words k.next k.is_copying call) refl refl (knows h o w0.token) due told k.at) in
     let after = c.retire.ensures.at q due told at (sym k.is_copying.lists.root) in
     let same : told ++ cond (nat_lt p.log p.log) (due ∷ []) [] ≡ told = ap (λ (b : Bool). told ++ cond b (due ∷ []) []) (not_less l p.log) ∙ append-nil told in
     record {
@@ -78,7 +78,7 @@ returns-clause-ends g c p call due told k x =
     let q = ends_with fl ba client p s root can k.words k.next k.is_copying call in
     let now : WriterState = record q { stage = idle; log = suc p.log } in
     let lists : Reflects n l now (adopted_lists s root) = adopted fl ba client p s root can k.words k.next k.is_copying now refl refl refl in
-    let at = subst (λ a. WriterAt a q due told) (sym c.publish.ensures.step.knows_now) (tidy_at fl ba client p s root can k.words k.next k.is_copying call (x here) (knows h o w0.token) due told k.at) in
+    let at = subst (λ a. WriterAt a q due told) (sym c.publish.ensures.step.knows_now) (publish_at fl ba client p s root can k.words k.next k.is_copying call tidies (x here) (ends_with fl ba client p s root can k.words k.next k.is_copying call) refl refl (knows h o w0.token) due told k.at) in
     let after = c.retire.ensures.at q due told at (sym k.is_copying.lists.root) in
     let more : told ++ cond (nat_lt p.log (suc p.log)) (due ∷ []) [] ≡ told ++ due ∷ [] = ap (λ (b : Bool). told ++ cond b (due ∷ []) []) (one_less l p.log) in
     record {
