@@ -125,6 +125,13 @@ IsFound at plan = (plan ≡ Stand at) ⊎ ((to : ℕ) × (plan ≡ Move to at))
 pub by_found : (P : Plan → Type 0) (at : ℕ) → P (Stand at) → ((to : ℕ) → P (Move to at)) → (plan : Plan) → IsFound at plan → P plan
 by_found P at stand move plan = ⊎_elim (λ (e : plan ≡ Stand at). subst P (sym e) stand) (λ (m : (to : ℕ) × (plan ≡ Move to at)). subst P (sym m.1) (move m.0))
 
+-- which of the two it is
+pub found_move : (at : ℕ) (plan : Plan) → IsFound at plan → (to from : ℕ) → plan ≡ Move to from → plan ≡ Move to at
+found_move at plan found to from is = ⊎_elim (λ (e : plan ≡ Stand at). absurd cc) (λ (m : (slot : ℕ) × (plan ≡ Move slot at)). let e = m.1 in cc) found
+
+pub found_stand : (at : ℕ) (plan : Plan) → IsFound at plan → ((to from : ℕ) → plan ≡ Move to from → ⊥) → plan ≡ Stand at
+found_stand at plan found stays = ⊎_elim (λ (e : plan ≡ Stand at). e) (λ (m : (to : ℕ) × (plan ≡ Move to at)). absurd (stays m.0 at m.1)) found
+
 -- it is missing
 abbrev pub IsMissing : Plan → Type 0
 IsMissing plan = ((at : ℕ) × (plan ≡ Empty at)) ⊎ ((at : ℕ) × (plan ≡ Reuse at))

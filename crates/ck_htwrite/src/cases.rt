@@ -181,22 +181,17 @@ pub(crate) fn store_by<D: Within<HtClient>, F, O: Opens>(
     match plan {
         Plan::Empty { at } => add_empty::<D, F, O>(domain, writer, state, at, key, value),
         Plan::Reuse { at } => Ok(add_reused::<D, F, O>(domain, writer, state, at, key, value)),
-        Plan::Stand { at } => {
+        Plan::Stand { at } | Plan::Move { from: at, .. } => {
             let was = word_in(&state.words, at, VALUE);
             if keeps {
                 ask_root::<D, F, O>(domain, writer);
                 return Ok(Reply::Has(was));
             }
-            put_word::<D, F, O>(domain, writer, state, at, VALUE, value);
-            Ok(Reply::Was(was))
-        }
-        Plan::Move { to, from } => {
-            let was = word_in(&state.words, from, VALUE);
-            if keeps {
-                ask_root::<D, F, O>(domain, writer);
-                return Ok(Reply::Has(was));
+            if let Plan::Move { to, .. } = plan {
+                move_key::<D, F, O>(domain, writer, state, to, at, key, value);
+            } else {
+                put_word::<D, F, O>(domain, writer, state, at, VALUE, value);
             }
-            move_key::<D, F, O>(domain, writer, state, to, from, key, value);
             Ok(Reply::Was(was))
         }
     }

@@ -1,8 +1,8 @@
-use Rattle.std.proofs.Common.{inl, inr, sym, ◌∙◌, subst}
+use Rattle.std.proofs.Common.{sym, ◌∙◌, subst}
 use Rattle.ck_htlaw.specs.Host.{host, lies}
 use Rattle.ck_htwrite.specs.Rebuild.{GoesOnAfter}
 use Rattle.ck_htwrite.specs.Updates.{AddsFresh}
-use Rattle.ck_htwrite.proofs.Plans.{adds_stored, reuses_stored, stored_goes_on}
+use Rattle.ck_htwrite.proofs.Plans.{adds_stored, found_move, found_stand, reuses_stored, stored_goes_on}
 use Rattle.ck_htwrite.proofs.ByPlan.{may_put_ask, may_set_move, may_set_stand, put_asks, set_move, set_stand, stored_empty, stored_reused, value_here}
 use Rattle.ck_htwrite.proofs.cases.store_by.Goals as goal
 
@@ -30,37 +30,25 @@ returns-in-Reuse-clause-made g c r is =
     (c.add_reused.ensures.made r (reuses_stored (lies (host g.D.Client.meaning g.D.Within.place g.D.Within.part) c.args.domain.now.origin) r.is_writer r.idles c.args.key c.args.value c.args.plan is c.args.keeps c.in-Reuse.at c.in-Reuse.is g.O.Opens.opens c.requires.name)) c.add_reused.ensures.kept
 
 pub word_in-was-requires : goal.word_in-was-requires
-word_in-was-requires g c = value_here _ _ c.args.writer.now c.args.state.now c.requires.due.0 g.O.Opens.opens c.args.key c.args.value c.args.plan c.requires.due.1 c.requires.inside c.requires.states c.in-Stand.at (inl c.in-Stand.is)
+word_in-was-requires g c = value_here _ _ c.args.writer.now c.args.state.now c.requires.due.0 g.O.Opens.opens c.args.key c.args.value c.args.plan c.requires.due.1 c.requires.inside c.requires.states c.in-Stand.at c.in-Stand.is
 
 pub ask_root-requires-clause-due : goal.ask_root-requires-clause-due
-ask_root-requires-clause-due g c root =
-    may_put_ask _ _ c.args.writer.now c.args.state.now c.requires.due.0 g.O.Opens.opens c.args.key c.args.value c.args.plan c.requires.due.1 c.requires.inside c.requires.states c.in-Stand.at (inl c.in-Stand.is) (rw c.if-keeps.true at c.requires.name) root
+ask_root-requires-clause-due g c root = may_put_ask _ _ c.args.writer.now c.args.state.now c.requires.due.0 g.O.Opens.opens c.args.key c.args.value c.args.plan c.requires.due.1 c.requires.inside c.requires.states c.in-Stand.at c.in-Stand.is (rw c.if-keeps.true at c.requires.name) root
 
 pub returns-then-keeps-clause-made : goal.returns-then-keeps-clause-made
 returns-then-keeps-clause-made g c r is =
-    rw c.if-keeps.true (put_asks _ _ c.args.writer.now c.args.state.now r g.O.Opens.opens c.args.key c.args.value c.args.plan is c.requires.inside c.requires.states c.in-Stand.at (inl c.in-Stand.is) (rw c.if-keeps.true at c.requires.name) c.word_in-was.result c.word_in-was.ensures c.ask_root.result _ c.ask_root.ensures.step)
-
-pub put_word-requires-clause-due : goal.put_word-requires-clause-due
-put_word-requires-clause-due g c = may_set_stand _ _ c.args.writer.now c.args.state.now c.requires.due.0 g.O.Opens.opens c.args.key c.args.value c.args.plan c.requires.due.1 c.requires.inside c.requires.states c.in-Stand.at c.in-Stand.is (rw c.if-keeps.false at c.requires.name)
-
-pub returns-else-keeps-clause-made : goal.returns-else-keeps-clause-made
-returns-else-keeps-clause-made g c r is =
-    rw c.if-keeps.false (set_stand _ _ c.args.writer.now c.args.state.now r g.O.Opens.opens c.args.key c.args.value c.args.plan is c.requires.inside c.requires.states c.in-Stand.at c.in-Stand.is (rw c.if-keeps.false at c.requires.name) c.word_in-was.result c.word_in-was.ensures _ _ c.put_word.ensures.step c.put_word.ensures.state)
-
-pub word_in-was-requires-in-Move : goal.word_in-was-requires-in-Move
-word_in-was-requires-in-Move g c = value_here _ _ c.args.writer.now c.args.state.now c.requires.due.0 g.O.Opens.opens c.args.key c.args.value c.args.plan c.requires.due.1 c.requires.inside c.requires.states c.in-Move.from (inr (c.in-Move.to, c.in-Move.is))
-
-pub ask_root-requires-then-keeps-2-clause-due : goal.ask_root-requires-then-keeps-2-clause-due
-ask_root-requires-then-keeps-2-clause-due g c root =
-    may_put_ask _ _ c.args.writer.now c.args.state.now c.requires.due.0 g.O.Opens.opens c.args.key c.args.value c.args.plan c.requires.due.1 c.requires.inside c.requires.states c.in-Move.from (inr (c.in-Move.to, c.in-Move.is)) (rw c.if-keeps-2.true at c.requires.name) root
-
-pub returns-then-keeps-2-clause-made : goal.returns-then-keeps-2-clause-made
-returns-then-keeps-2-clause-made g c r is =
-    rw c.if-keeps-2.true (put_asks _ _ c.args.writer.now c.args.state.now r g.O.Opens.opens c.args.key c.args.value c.args.plan is c.requires.inside c.requires.states c.in-Move.from (inr (c.in-Move.to, c.in-Move.is)) (rw c.if-keeps-2.true at c.requires.name) c.word_in-was-in-Move.result c.word_in-was-in-Move.ensures c.ask_root-then-keeps-2.result _ c.ask_root-then-keeps-2.ensures.step)
+    rw c.if-keeps.true (put_asks _ _ c.args.writer.now c.args.state.now r g.O.Opens.opens c.args.key c.args.value c.args.plan is c.requires.inside c.requires.states c.in-Stand.at c.in-Stand.is (rw c.if-keeps.true at c.requires.name) c.word_in-was.result c.word_in-was.ensures c.ask_root.result _ c.ask_root.ensures.step)
 
 pub move_key-requires-clause-due : goal.move_key-requires-clause-due
-move_key-requires-clause-due g c = may_set_move _ _ c.args.writer.now c.args.state.now c.requires.due.0 g.O.Opens.opens c.args.key c.args.value c.args.plan c.requires.due.1 c.requires.inside c.requires.states c.in-Move.to c.in-Move.from c.in-Move.is (rw c.if-keeps-2.false at c.requires.name)
+move_key-requires-clause-due g c = may_set_move _ _ c.args.writer.now c.args.state.now c.requires.due.0 g.O.Opens.opens c.args.key c.args.value c.args.plan c.requires.due.1 c.requires.inside c.requires.states c.in-Move.to c.in-Stand.at (found_move c.in-Stand.at c.args.plan c.in-Stand.is c.in-Move.to c.in-Move.from (sym c.in-Stand.plan-is ∙ c.in-Move.is)) (rw c.if-keeps.false at c.requires.name)
 
-pub returns-else-keeps-2-clause-made : goal.returns-else-keeps-2-clause-made
-returns-else-keeps-2-clause-made g c r is =
-    rw c.if-keeps-2.false (set_move _ _ c.args.writer.now c.args.state.now r g.O.Opens.opens c.args.key c.args.value c.args.plan is c.requires.inside c.requires.states c.in-Move.to c.in-Move.from c.in-Move.is (rw c.if-keeps-2.false at c.requires.name) c.word_in-was-in-Move.result c.word_in-was-in-Move.ensures _ _ c.move_key.ensures.steps c.move_key.ensures.state)
+pub returns-in-Move-clause-made : goal.returns-in-Move-clause-made
+returns-in-Move-clause-made g c r is =
+    rw c.if-keeps.false (set_move _ _ c.args.writer.now c.args.state.now r g.O.Opens.opens c.args.key c.args.value c.args.plan is c.requires.inside c.requires.states c.in-Move.to c.in-Stand.at (found_move c.in-Stand.at c.args.plan c.in-Stand.is c.in-Move.to c.in-Move.from (sym c.in-Stand.plan-is ∙ c.in-Move.is)) (rw c.if-keeps.false at c.requires.name) c.word_in-was.result c.word_in-was.ensures _ _ c.move_key.ensures.steps c.move_key.ensures.state)
+
+pub put_word-requires-clause-due : goal.put_word-requires-clause-due
+put_word-requires-clause-due g c = may_set_stand _ _ c.args.writer.now c.args.state.now c.requires.due.0 g.O.Opens.opens c.args.key c.args.value c.args.plan c.requires.due.1 c.requires.inside c.requires.states c.in-Stand.at (found_stand c.in-Stand.at c.args.plan c.in-Stand.is (λ to from e. c.in_default.not-Move to from (c.in-Stand.plan-is ∙ e))) (rw c.if-keeps.false at c.requires.name)
+
+pub returns-in_default-clause-made : goal.returns-in_default-clause-made
+returns-in_default-clause-made g c r is =
+    rw c.if-keeps.false (set_stand _ _ c.args.writer.now c.args.state.now r g.O.Opens.opens c.args.key c.args.value c.args.plan is c.requires.inside c.requires.states c.in-Stand.at (found_stand c.in-Stand.at c.args.plan c.in-Stand.is (λ to from e. c.in_default.not-Move to from (c.in-Stand.plan-is ∙ e))) (rw c.if-keeps.false at c.requires.name) c.word_in-was.result c.word_in-was.ensures _ _ c.put_word.ensures.step c.put_word.ensures.state)
