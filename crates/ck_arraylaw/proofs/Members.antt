@@ -1,5 +1,5 @@
--- Lists after edits: they have few members, edits go on from those before, and a region has room.
-use Rattle.std.proofs.Common.{◌≡◌, ℕ, zero, suc, ◌+◌, ◌-◌, ◌^◌, ◌<◌, ◌≤◌, ◌==◌, Bool, true, false, cond, nat_lt, List, [], ◌∷◌, ◌++◌, length, set, get_or, Option, Some, None, if◌then◌else◌, refl, subst, length-append, length-set, arith}
+-- Lists after edits: they have few members, edits go on from those before, and a region has room. And a region is an item.
+use Rattle.std.proofs.Common.{◌≡◌, ℕ, zero, suc, ◌+◌, ◌-◌, ◌^◌, ◌<◌, ◌≤◌, ◌==◌, Bool, true, false, cond, nat_lt, List, [], ◌∷◌, ◌++◌, length, set, get_or, Option, Some, None, if◌then◌else◌, refl, subst, length-append, length-set, arith, zero-add}
 use Rattle.std.proofs.lemmas.Bool.Decides.{nat_tests}
 use Rattle.std.proofs.lemmas.List.{length-take}
 use Rattle.std.specs.Option.{option_map_or}
@@ -11,7 +11,10 @@ use Rattle.ck_history.specs.declared.edit.EditReply.{EditReply}
 use Rattle.ck_history.specs.declared.edit.EditReply.TheVariants.{Added, Full, Dropped, Missing}
 use Rattle.ck_history.specs.Lists.{ListState, add_member, drop_member, list_step, empty_lists, lists_after_from}
 use Rattle.ck_arraylaw.specs.declared.client.TheConstants.{LEAST_LOG}
-use Rattle.ck_arraylaw.specs.Layout.{log_from, log_for}
+use Rattle.ck_arraylaw.specs.Layout.{log_from, log_for, IsRegion, IsArrayItem}
+use Rattle.std.proofs.lemmas.Nat.{pow_pos}
+use Rattle.ck_epoch.specs.declared.item.Item.{Item}
+use Rattle.ck_epoch.specs.Within.{item_from}
 
 pub after-append : (s : ListState) (es fs : List Edit) → lists_after_from s (es ++ fs) ≡ lists_after_from (lists_after_from s es) fs
 after-append s [] fs = refl
@@ -48,10 +51,7 @@ pub few_lists : (es : List Edit) → IsFew (lists_after_from empty_lists es)
 few_lists es = few_after empty_lists es (record { pending = omega arith; committed = omega arith })
 
 room_from : (more l n : ℕ) → n < 2 ^ (more + l) → n < 2 ^ log_from more l n
-room_from zero l n h = subst (λ (k : ℕ). n < 2 ^ k) (none l) h
-  where
-    none : (l : ℕ) → 0 + l ≡ l
-    none l = omega arith
+room_from zero l n h = subst (λ (k : ℕ). n < 2 ^ k) (zero-add l) h
 room_from (suc more) l n h = go (nat_lt n (2 ^ l)) refl (room_from more (suc l) n (subst (λ (k : ℕ). n < 2 ^ k) (along more l) h))
   where
     along : (more l : ℕ) → suc more + l ≡ more + suc l
@@ -63,3 +63,7 @@ room_from (suc more) l n h = go (nat_lt n (2 ^ l)) refl (room_from more (suc l) 
 
 pub room_for : (n : ℕ) → n ≤ MOST_MEMBERS → n < 2 ^ log_for n
 room_for n few = room_from 10 LEAST_LOG n (omega arith)
+
+-- a region of the array is one of its items
+pub region_is_item : (place : ℕ) (region : Item) → IsRegion region → IsArrayItem place (item_from place region)
+region_is_item place region inside = let low = inside.low in let high = inside.high in let some = pow_pos region.log in (omega arith, omega arith)

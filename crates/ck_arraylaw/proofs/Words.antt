@@ -1,5 +1,5 @@
 -- What a step does to words, and to the members that a region's words stand for.
-use Rattle.std.proofs.Common.{◌≡◌, ◌≢◌, ℕ, suc, ◌+◌, ◌^◌, ◌<◌, ◌≤◌, ◌⊎◌, ⊎_elim, inl, inr, Bool, true, false, cond, ◌==◌, ◌&&◌, leb, ltb, List, length, get_or, get_or-set_other, length-set, refl, sym, ap, ◌∙◌, subst, arith}
+use Rattle.std.proofs.Common.{◌≡◌, ◌≢◌, ℕ, suc, ◌+◌, ◌^◌, ◌<◌, ◌≤◌, ◌⊎◌, ⊎_elim, inl, inr, Bool, true, false, cond, ◌==◌, ◌&&◌, leb, ltb, List, length, get_or, get_or-set_other, length-set, refl, sym, ap, ◌∙◌, subst, arith, add-zero}
 use Rattle.std.proofs.lemmas.Bool.Decides.{nat_tests}
 use Rattle.ck_run.specs.declared.account.Step.{Step}
 use Rattle.ck_run.specs.declared.account.Step.TheVariants.{Load, Store, Exchange}
@@ -46,17 +46,14 @@ pub after_any_load : (floor base : ℕ) (ws : List ℕ) (s : Step) → IsLoad fl
 after_any_load floor base ws (Load a x) m = refl
 after_any_load floor base ws s m = absurd m
 
--- places within a region
-first_place : (a : ℕ) → a + 0 ≡ a
-first_place a = omega arith
-
-next_place : (a j : ℕ) → a + 1 + j ≡ a + suc j
+-- the next place within a region
+pub next_place : (a j : ℕ) → a + 1 + j ≡ a + suc j
 next_place a j = omega arith
 
 -- where the words at the first places stand as they did, so do the members
 pub first_stays : (base : ℕ) (ws ws' : List ℕ) (region : Item) (members : List ℕ) (n : ℕ) → ((j : ℕ) → j ≤ n → get_or ws' (base + region.at + j) 0 ≡ get_or ws (base + region.at + j) 0) → HoldsFirst base ws region members n → HoldsFirst base ws' region members n
 first_stays base ws ws' region members n same h = record {
-  count = subst (λ (k : ℕ). get_or ws' k 0 ≡ get_or ws k 0) (first_place (base + region.at)) (same 0 (omega arith)) ∙ h.count;
+  count = subst (λ (k : ℕ). get_or ws' k 0 ≡ get_or ws k 0) (add-zero (base + region.at)) (same 0 (omega arith)) ∙ h.count;
   member = λ j low. subst (λ (k : ℕ). get_or ws' k 0 ≡ get_or ws k 0) (sym (next_place (base + region.at) j)) (same (suc j) (omega arith)) ∙ h.member j low;
 }
 

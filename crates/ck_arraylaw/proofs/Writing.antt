@@ -1,5 +1,5 @@
 -- What holds of the array's words and of its writer at each moment, and that each of the writer's steps keeps it.
-use Rattle.std.proofs.Common.{◌≡◌, ◌≢◌, ℕ, suc, ◌+◌, ◌-◌, ◌^◌, ◌<◌, ◌≤◌, ◌⊎◌, ⊎_elim, Bool, true, false, nat_lt, List, [], ◌∷◌, ◌++◌, length, All, Contains, set, get_or, get_or-set_other, get_or-set_same, refl, sym, ap, ◌∙◌, subst, arith}
+use Rattle.std.proofs.Common.{◌≡◌, ◌≢◌, ℕ, suc, ◌+◌, ◌-◌, ◌^◌, ◌<◌, ◌≤◌, ◌⊎◌, ⊎_elim, Bool, true, false, nat_lt, List, [], ◌∷◌, ◌++◌, length, All, Contains, set, get_or, get_or-set_other, get_or-set_same, refl, sym, ap, ◌∙◌, subst, arith, add-zero}
 use Rattle.std.proofs.lemmas.Bool.Decides.{nat_tests}
 use Rattle.std.proofs.lemmas.Nat.{pow_pos}
 use Rattle.std.proofs.lemmas.List.Elements.{All-contains}
@@ -21,7 +21,7 @@ use Rattle.ck_arraylaw.specs.Layout.{array_words, log_for, IsRegion, HoldsFirst,
 use Rattle.ck_arraylaw.specs.Array.{CommitStage, between_calls, filling, replaced, WriterState, lists_of, region_by, MayBegin, MayFill, MayWrite, MayRetire, MayOtherIf, begun, filled, written, released, released_if}
 use Rattle.ck_arraylaw.specs.Client.{BeginsCommit}
 use Rattle.ck_arraylaw.proofs.Members.{after-append, few_lists, room_for}
-use Rattle.ck_arraylaw.proofs.Words.{after_load, store_is, first_stays, list_stays, one_stored}
+use Rattle.ck_arraylaw.proofs.Words.{after_load, store_is, first_stays, list_stays, one_stored, next_place}
 use Rattle.ck_arraylaw.proofs.Linked.{writer_with}
 
 -- what is pending after a step was so before, or is no item of the array's
@@ -138,7 +138,7 @@ module _ (place base : ℕ) (ws : List ℕ) (pending pending' : List Retirement)
       unfinished = record {
         free = free_kept place present region pending pending' was free;
         room = room_for n (few_lists log).pending;
-        stored = record { count = subst (λ (k : ℕ). get_or (set ws (base + region.at + 0) n) k 0 ≡ n) (sym (no_more (base + region.at))) (here region free 0 n some); member = λ j none. absurd (omega arith) };
+        stored = record { count = subst (λ (k : ℕ). get_or (set ws (base + region.at + 0) n) k 0 ≡ n) (add-zero (base + region.at)) (here region free 0 n some); member = λ j none. absurd (omega arith) };
         few = omega arith;
       };
     }
@@ -152,16 +152,13 @@ module _ (place base : ℕ) (ws : List ℕ) (pending pending' : List Retirement)
         some : 0 < 2 ^ log_for n
         some = pow_pos (log_for n)
 
-        no_more : (a : ℕ) → a ≡ a + 0
-        no_more a = omega arith
-
         place_is : base + (word_of s - base) + 0 ≡ word_of s
         place_is = omega arith
 
     -- the store of a member
     fills : (region : Item) (i : ℕ) → i < length lists.pending → WriterInvariant place base ws pending (writer_with log present (filling region i))
         → WriterInvariant place base (set ws (base + region.at + 1 + i) (get_or lists.pending i 0)) pending' (writer_with log present (filling region (suc i)))
-    fills region i more h = subst (λ (k : ℕ). WriterInvariant place base (set ws k x) pending' (writer_with log present (filling region (suc i)))) (sym (next (base + region.at) i)) record {
+    fills region i more h = subst (λ (k : ℕ). WriterInvariant place base (set ws k x) pending' (writer_with log present (filling region (suc i)))) (sym (next_place (base + region.at) i)) record {
       root = root_stays region f.free (suc i) x low ∙ h.root;
       inside = h.inside;
       list = present_stays region f.free (suc i) x low lists.committed h.list;
@@ -169,7 +166,7 @@ module _ (place base : ℕ) (ws : List ℕ) (pending pending' : List Retirement)
         free = free_kept place present region pending pending' was f.free;
         room = f.room;
         stored = one_stored base ws (set ws (base + region.at + suc i) x) region lists.pending i (λ j small. get_or-set_other ws (base + region.at + suc i) (base + region.at + j) x 0 (λ e. omega arith))
-            (subst (λ (k : ℕ). get_or (set ws (base + region.at + suc i) x) k 0 ≡ x) (sym (next (base + region.at) i)) (here region f.free (suc i) x low)) f.stored;
+            (subst (λ (k : ℕ). get_or (set ws (base + region.at + suc i) x) k 0 ≡ x) (sym (next_place (base + region.at) i)) (here region f.free (suc i) x low)) f.stored;
         few = omega arith;
       };
     }
@@ -182,9 +179,6 @@ module _ (place base : ℕ) (ws : List ℕ) (pending pending' : List Retirement)
 
         low : suc i < 2 ^ region.log
         low = let room = f.room in omega arith
-
-        next : (a j : ℕ) → a + 1 + j ≡ a + suc j
-        next a j = omega arith
 
     -- the store of the root
     publishes : (region : Item) (i : ℕ) → length lists.pending ≤ i → WriterInvariant place base ws pending (writer_with log present (filling region i)) → WriterInvariant place base (set ws base region.at) pending' (writer_with log region (replaced present))
