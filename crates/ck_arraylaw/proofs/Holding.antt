@@ -1,5 +1,5 @@
 -- What holds of an array's words and its writer holds at each moment of every true run of a domain whose client holds the array.
-use Rattle.std.proofs.Common.{◌≡◌, ◌≢◌, ℕ, zero, suc, ◌+◌, ◌<◌, ◌≤◌, ◌⊎◌, ⊎_elim, inl, inr, Bool, true, false, cond, nat_eq, List, [], ◌∷◌, ◌++◌, length, Contains, get_or, refl, sym, ap, ◌∙◌, subst, arith}
+use Rattle.std.proofs.Common.{◌≡◌, ◌≢◌, ℕ, zero, suc, ◌+◌, ◌<◌, ◌≤◌, ◌⊎◌, ⊎_elim, inl, inr, Bool, true, false, cond, nat_eq, List, [], ◌∷◌, ◌++◌, length, Contains, get_or, refl, sym, ap, ◌∙◌, subst, arith, add-zero}
 use Rattle.std.proofs.lemmas.List.Elements.{All-contains_itself}
 use mathlib.Core.Logic.{dite}
 use native.Mathlib.Decide.{ℕ_discrete}
@@ -43,7 +43,17 @@ pub reader_loads : (floor base : ℕ) (ws : List ℕ) (y : ReaderState) (e : Ent
 reader_loads floor base ws y e true m = after_any_load floor base ws e.step m
 reader_loads floor base ws y e false m = reads_load base ws y.stage e.opens e m
 
-module _ {D : Type 0} (host : Host D) (within : IsWithin array host.client host.place host.part) (law : Reclamation D) (pieces : ReclaimsPieces (regions host)) (origin : Origin D) where
+-- An array in a domain: the host, what holds of it and of the domain, and how that began
+pub record ArrayIn (D : Type 0) : Type 1 where
+  pub host : Host D
+  pub within : IsWithin array host.client host.place host.part
+  pub law : Reclamation D
+  pub pieces : ReclaimsPieces (regions host)
+  pub origin : Origin D
+
+module _ {D : Type 0} (a : ArrayIn D) where
+  open a use {host, within, law, origin}
+
   abbrev pub floor : ℕ
   floor = floor_word host origin
 
@@ -230,15 +240,12 @@ module _ {D : Type 0} (host : Host D) (within : IsWithin array host.client host.
       at_writer = refl;
       long = let d = origin.config.client in let fits = within.fits d in let e = o.long in omega arith;
       invariant = record {
-        root = ap (λ (i : ℕ). get_or origin.words i 0) (plus_none base) ∙ word 0 (omega arith);
+        root = ap (λ (i : ℕ). get_or origin.words i 0) (sym (add-zero base)) ∙ word 0 (omega arith);
         inside = record { low = omega arith; high = omega arith };
         list = record { all = record { count = word 1 (omega arith); member = λ j none. absurd (omega arith) }; room = omega arith };
         unfinished = tt;
       };
     }
-      where
-        plus_none : (a : ℕ) → a ≡ a + 0
-        plus_none a = omega arith
 
   -- at each moment of such a run
   pub held : (past more : Run) → IsTrue (past ++ more) → Holds past

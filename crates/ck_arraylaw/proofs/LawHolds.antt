@@ -10,20 +10,19 @@ use Rattle.ck_history.specs.declared.edit.Edit.{Edit}
 use Rattle.ck_history.specs.declared.edit.Edit.TheVariants.{Commit}
 use Rattle.ck_history.specs.Lists.{empty_lists, lists_after_from}
 use Rattle.ck_epoch.specs.declared.item.Item.{Item}
-use Rattle.ck_epoch.specs.State.{Origin, records_of}
-use Rattle.ck_epoch.specs.Epochs.{IsOpen, Reclamation}
-use Rattle.ck_epoch.specs.Within.{IsWithin, item_from}
-use Rattle.ck_reclaim.specs.Reclaim.{ReclaimsPieces, IsApartFromRetired}
+use Rattle.ck_epoch.specs.State.{records_of}
+use Rattle.ck_epoch.specs.Epochs.{IsOpen}
+use Rattle.ck_epoch.specs.Within.{item_from}
+use Rattle.ck_reclaim.specs.Reclaim.{IsApartFromRetired}
 use Rattle.ck_arraylaw.specs.Calls.{Opening, adding, dropping, committing, opening_of}
-use Rattle.ck_arraylaw.specs.Host.{Host}
 use Rattle.ck_arraylaw.specs.Layout.{IsRegion, HoldsList}
 use Rattle.ck_arraylaw.specs.Array.{CommitStage, between_calls, filling, replaced, WriterState, LocalState, writer, reader, edits_at, lists_of, begun, filled, written, released, released_if, is_array_word, is_array_item, after_own, after_other, array_next}
-use Rattle.ck_arraylaw.specs.Client.{array_start, logged, array}
+use Rattle.ck_arraylaw.specs.Client.{array_start, logged}
 use Rattle.ck_arraylaw.specs.Laws.{GoesOn, same_on}
 use Rattle.ck_arraylaw.specs.Regions.{regions, place_in}
 use Rattle.ck_arraylaw.specs.Law.{edits_by, region_of, Unpublished, until, local_in, edits_in, log_in, committed_in, region_in, WordsStand, IsReading, Answers, KeepsRegion, ArrayLaw}
 use Rattle.ck_arraylaw.proofs.Linked.{writer_with}
-use Rattle.ck_arraylaw.proofs.Holding.{floor, base, IsTrue, words, Holds, is_reusable, held}
+use Rattle.ck_arraylaw.proofs.Holding.{floor, base, IsTrue, words, Holds, is_reusable, held, ArrayIn}
 use Rattle.ck_arraylaw.proofs.Answering.{begins_at, begun as begun_reading, answers_list, Known, known_until}
 
 -- the edits that have taken place stay, whatever the step
@@ -72,25 +71,24 @@ one_unanswered between_calls log = ([], sym (append-nil log), omega arith)
 one_unanswered (filling new i) log = ([], sym (append-nil log), omega arith)
 one_unanswered (replaced old) log = (Commit ∷ [], refl, omega arith)
 
-module _ {D : Type 0} (host : Host D) (within : IsWithin array host.client host.place host.part) (law : Reclamation D) (pieces : ReclaimsPieces (regions host)) (origin : Origin D) where
-  abbrev T : Run → Type 0
-  T run = IsTrue host within law pieces origin run
+module _ {D : Type 0} (a : ArrayIn D) where
+  open a use {host, pieces, origin}
 
   abbrev b : ℕ
-  b = base host within law pieces origin
+  b = base a
 
   abbrev f : ℕ
-  f = floor host within law pieces origin
+  f = floor a
 
-  stands : (past more : Run) → T (past ++ more) → WordsStand host origin past
-  stands past more t = let h = held host within law pieces origin past more t in let ws = words host within law pieces origin past in record {
+  stands : (past more : Run) → IsTrue a (past ++ more) → WordsStand host origin past
+  stands past more t = let h = held a past more t in let ws = words a past in record {
     root = subst (λ (x : LocalState). get_or ws b 0 ≡ (region_of x).at) (sym h.at_writer) h.invariant.root;
     inside = subst (λ (x : LocalState). IsRegion (region_of x)) (sym h.at_writer) h.invariant.inside;
     list = subst (λ (x : LocalState). HoldsList b ws (region_of x) (lists_after_from empty_lists (edits_by x)).committed) (sym h.at_writer) h.invariant.list;
   }
 
-  has_all_but_one : (past more : Run) → T (past ++ more) → (es : List Edit) × (edits_in host origin past ≡ log_in host origin past ++ es) × (length es ≤ 1)
-  has_all_but_one past more t = let h = held host within law pieces origin past more t in
+  has_all_but_one : (past more : Run) → IsTrue a (past ++ more) → (es : List Edit) × (edits_in host origin past ≡ log_in host origin past ++ es) × (length es ≤ 1)
+  has_all_but_one past more t = let h = held a past more t in
       subst (λ (x : LocalState). (es : List Edit) × (edits_by x ≡ logged x ++ es) × (length es ≤ 1)) (sym h.at_writer) (one_unanswered h.writer_state.stage h.writer_state.log)
 
   goes_on : (past more : Run) → (es : List Edit) × (edits_in host origin (past ++ more) ≡ edits_in host origin past ++ es)
@@ -98,35 +96,35 @@ module _ {D : Type 0} (host : Host D) (within : IsWithin array host.client host.
       (g.0, ap (λ (es : List Entry). edits_by (state_after (array_next f b) (array_start 0) es)) (account-append 0 past more) ∙ (ap edits_by (state-append (array_next f b) (array_start 0) (account 0 past) (account 0 more)) ∙ g.1))
 
   -- within an `all`
-  module _ (past between rest : Run) (r : ℕ) (e : Entry) (t : T (until past r e between ++ rest)) (reading : IsReading host origin past r e between) where
-    t_first : T (past ++ (suc r, e) ∷ (between ++ rest))
-    t_first = subst T (append_assoc past ((suc r, e) ∷ between) rest) t
+  module _ (past between rest : Run) (r : ℕ) (e : Entry) (t : IsTrue a (until past r e between ++ rest)) (reading : IsReading host origin past r e between) where
+    t_first : IsTrue a (past ++ (suc r, e) ∷ (between ++ rest))
+    t_first = subst (IsTrue a) (append_assoc past ((suc r, e) ∷ between) rest) t
 
-    h : Holds host within law pieces origin past
-    h = held host within law pieces origin past ((suc r, e) ∷ (between ++ rest)) t_first
+    h : Holds a past
+    h = held a past ((suc r, e) ∷ (between ++ rest)) t_first
 
     abbrev p : WriterState
     p = h.writer_state
 
-    known : Known host within law pieces origin past p.region (lists_of p).committed (begins_at host within law pieces origin past h) (until past r e between) r
-    known = known_until host within law pieces origin past p.region (lists_of p).committed (begins_at host within law pieces origin past h) past r e between rest t reading
-        (begun_reading host within law pieces origin past r e (between ++ rest) t_first h reading.starts (reading.goes [] between refl))
+    known : Known a past p.region (lists_of p).committed (begins_at a past h) (until past r e between) r
+    known = known_until a past p.region (lists_of p).committed (begins_at a past h) past r e between rest t reading
+        (begun_reading a past r e (between ++ rest) t_first h reading.starts (reading.goes [] between refl))
 
     keeps_region : KeepsRegion host origin past (until past r e between) (region_in host origin past)
     keeps_region = subst (λ (x : LocalState). KeepsRegion host origin past (until past r e between) (region_of x)) (sym h.at_writer) known.0.kept
 
-  answered : (past between rest : Run) (r : ℕ) (e e' : Entry) (members : List ℕ) → T (until past r e between ++ (suc r, e') ∷ rest) → IsReading host origin past r e between → Answers host origin (until past r e between) r e' members → members ≡ committed_in host origin past
+  answered : (past between rest : Run) (r : ℕ) (e e' : Entry) (members : List ℕ) → IsTrue a (until past r e between ++ (suc r, e') ∷ rest) → IsReading host origin past r e between → Answers host origin (until past r e between) r e' members → members ≡ committed_in host origin past
   answered past between rest r e e' members t reading answers =
       let k = known past between ((suc r, e') ∷ rest) r e t reading in let hold = h past between ((suc r, e') ∷ rest) r e t reading in
-      answers_list host within law pieces origin past hold.writer_state.region (lists_of hold.writer_state).committed (begins_at host within law pieces origin past hold) (until past r e between) r e' rest t k.0 (reading.goes between [] (sym (append-nil between))) k.1 members answers
+      answers_list a past hold.writer_state.region (lists_of hold.writer_state).committed (begins_at a past hold) (until past r e between) r e' rest t k.0 (reading.goes between [] (sym (append-nil between))) k.1 members answers
       ∙ ap (λ (x : LocalState). (lists_after_from empty_lists (edits_by x)).committed) (sym hold.at_writer)
 
-  reclaimed : (past rest : Run) (e : Entry) (p : WriterState) (region : Item) → T (past ++ (0, e) ∷ rest) → local_in host origin past 0 ≡ writer p → is_array_word f b e.step ≡ true → Unpublished b p e p.stage region → (r o : ℕ) → r < records_of origin → IsOpen past r o
+  reclaimed : (past rest : Run) (e : Entry) (p : WriterState) (region : Item) → IsTrue a (past ++ (0, e) ∷ rest) → local_in host origin past 0 ≡ writer p → is_array_word f b e.step ≡ true → Unpublished b p e p.stage region → (r o : ℕ) → r < records_of origin → IsOpen past r o
       → IsApartFromRetired (regions host) origin past o (item_from (place_in host origin) region)
   reclaimed past rest e p region t at_p own u r o low section =
-      let h = held host within law pieces origin past ((0, e) ∷ rest) t in
+      let h = held a past ((0, e) ∷ rest) t in
       let same : p ≡ h.writer_state = let z : writer p ≡ writer h.writer_state = sym at_p ∙ h.at_writer in cc in
-      pieces.retired origin past ((0, e) ∷ rest) (item_from (place_in host origin) region) t (is_reusable host within law pieces origin past e rest t h own region (subst (λ (q : WriterState). Unpublished b q e q.stage region) same u)) r o low section
+      pieces.retired origin past ((0, e) ∷ rest) (item_from (place_in host origin) region) t (is_reusable a past e rest t h own region (subst (λ (q : WriterState). Unpublished b q e q.stage region) same u)) r o low section
 
   pub array_law : ArrayLaw host origin
   array_law = record {

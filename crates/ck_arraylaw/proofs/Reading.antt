@@ -11,29 +11,22 @@ use Rattle.ck_run.specs.Range.{word_of}
 use Rattle.ck_history.specs.declared.edit.TheConstants.{MOST_MEMBERS}
 use Rattle.ck_history.specs.declared.edit.Edit.{Edit}
 use Rattle.ck_epoch.specs.declared.item.Item.{Item}
-use Rattle.ck_epoch.specs.State.{Origin, records_of, active_word}
-use Rattle.ck_epoch.specs.Epochs.{IsOpen, Reclamation}
-use Rattle.ck_epoch.specs.Within.{IsWithin, item_from}
+use Rattle.ck_epoch.specs.State.{records_of, active_word}
+use Rattle.ck_epoch.specs.Epochs.{IsOpen}
+use Rattle.ck_epoch.specs.Within.{item_from}
 use Rattle.ck_reclaim.specs.Pieces.{AreApart, WasLinked}
-use Rattle.ck_reclaim.specs.Reclaim.{ReclaimsPieces}
 use Rattle.ck_arraylaw.specs.Calls.{Opening, adding, dropping, committing, opening_of}
-use Rattle.ck_arraylaw.specs.Host.{Host}
-use Rattle.ck_arraylaw.specs.Layout.{array_words, IsRegion, HoldsList, IsArrayItem}
+use Rattle.ck_arraylaw.specs.Layout.{array_words, IsRegion, HoldsList}
 use Rattle.ck_arraylaw.specs.Array.{CommitStage, between_calls, filling, replaced, no_read, ReaderState, LocalState, writer, reader, lists_of, MayBegin, MayFill, MayWrite, MayIf, given_up, is_array_word, is_section, after_own, after_other, array_next}
-use Rattle.ck_arraylaw.specs.Client.{first_reader, array}
+use Rattle.ck_arraylaw.specs.Client.{first_reader}
 use Rattle.ck_arraylaw.specs.Regions.{regions}
 use Rattle.ck_arraylaw.specs.Law.{read_stage_of, Unpublished}
-use Rattle.ck_arraylaw.proofs.Words.{in_range, leaves, store_is, after_load}
+use Rattle.ck_arraylaw.proofs.Words.{in_range, leaves, store_is, after_load, next_place}
 use Rattle.ck_arraylaw.proofs.Linked.{writer_with}
 use Rattle.ck_arraylaw.proofs.Writing.{Unfinished, apart_places}
 use Rattle.ck_arraylaw.proofs.Tokens.{reader_after}
-use Rattle.ck_arraylaw.proofs.Holding.{floor, base, place, IsTrue, words, local, pending, Holds, words_next, local_next, not_on, writer_may, is_reusable, reader_leaves}
-
-no_more : (a : ℕ) → a + 0 ≡ a
-no_more a = omega arith
-
-next_word : (a j : ℕ) → a + 1 + j ≡ a + suc j
-next_word a j = omega arith
+use Rattle.ck_arraylaw.proofs.Holding.{floor, base, place, IsTrue, words, local, pending, Holds, words_next, local_next, not_on, writer_may, is_reusable, reader_leaves, ArrayIn}
+use Rattle.ck_arraylaw.proofs.Members.{region_is_item}
 
 -- A step of the writer's on the array's words leaves a region that shares no word with the one that it stores in
 module _ (place base : ℕ) (ws : List ℕ) (e : Entry) (log : List Edit) (present region : Item) (inside : IsRegion region) (j : ℕ) (low : j < 2 ^ region.log) where
@@ -51,7 +44,7 @@ module _ (place base : ℕ) (ws : List ℕ) (e : Entry) (log : List Edit) (prese
   fill_leaves : (new : Item) (i : ℕ) (members : List ℕ) (b : Bool) → nat_lt i (length members) ≡ b → length members < 2 ^ new.log → MayFill base members new i b e.step → AreApart (item_from place region) (item_from place new) → Left
   fill_leaves new i members true is room m apart = leaves ws e.step (base + region.at + j) (λ same.
       apart_places place base region new apart j (suc i) low (let less : i < length members = grind (arith, nat_tests) in omega arith)
-      (sym same ∙ (ap word_of (store_is (base + new.at + 1 + i) (get_or members i 0) e.step m) ∙ next_word (base + new.at) i)))
+      (sym same ∙ (ap word_of (store_is (base + new.at + 1 + i) (get_or members i 0) e.step m) ∙ next_place (base + new.at) i)))
   fill_leaves new i members false is room m apart = leaves ws e.step (base + region.at + j) (λ same. let there : word_of e.step ≡ base = ap word_of (store_is base new.at e.step m) in let above = inside.low in omega arith)
 
   pub writer_leaves : (pending : _) (g : CommitStage) → base ≤ word_of e.step → Unfinished place base ws pending present (lists_of (writer_with log present g)).pending g → MayWrite base (writer_with log present g) e.opens g e.step
@@ -63,27 +56,14 @@ module _ (place base : ℕ) (ws : List ℕ) (e : Entry) (log : List Edit) (prese
 below : (a b : ℕ) → a < b → ltb a b ≡ true
 below a b h = grind (arith, nat_tests)
 
-module _ {D : Type 0} (host : Host D) (within : IsWithin array host.client host.place host.part) (law : Reclamation D) (pieces : ReclaimsPieces (regions host)) (origin : Origin D) where
-  abbrev T : Run → Type 0
-  T run = IsTrue host within law pieces origin run
-
-  abbrev W : Run → List ℕ
-  W run = words host within law pieces origin run
-
-  abbrev L : Run → ℕ → LocalState
-  L run n = local host within law pieces origin run n
-
-  abbrev H : Run → Type 0
-  H run = Holds host within law pieces origin run
+module _ {D : Type 0} (a : ArrayIn D) where
+  open a use {host, pieces, origin}
 
   abbrev b : ℕ
-  b = base host within law pieces origin
+  b = base a
 
   abbrev f : ℕ
-  f = floor host within law pieces origin
-
-  abbrev pl : ℕ
-  pl = place host within law pieces origin
+  f = floor a
 
   -- What is known of the reader of the record r within an `all` that began with this region after the moment `first`
   pub record Looks (first run : Run) (r : ℕ) (region : Item) : Type 0 where
@@ -91,41 +71,38 @@ module _ {D : Type 0} (host : Host D) (within : IsWithin array host.client host.
     pub o : ℕ
     pub section : IsOpen run r o
     pub linked : WasLinked (regions host) origin run o region
-    pub kept : (j : ℕ) → j < 2 ^ region.log → get_or (W run) (b + region.at + j) 0 ≡ get_or (W first) (b + region.at + j) 0
+    pub kept : (j : ℕ) → j < 2 ^ region.log → get_or (words a run) (b + region.at + j) 0 ≡ get_or (words a first) (b + region.at + j) 0
 
   -- at the first moment the region is the present one
   pub record Begins (first : Run) (region : Item) (members : List ℕ) : Type 0 where
     pub inside : IsRegion region
-    pub list : HoldsList b (W first) region members
+    pub list : HoldsList b (words a first) region members
     pub few : length members ≤ MOST_MEMBERS
 
   module _ (first : Run) (region : Item) (members : List ℕ) (start : Begins first region members) where
     inside_array : (j : ℕ) → j < 2 ^ region.log → b + region.at + j < b + array_words
     inside_array j low = let high = start.inside.high in omega arith
 
-    item_is : IsArrayItem pl (item_from pl region)
-    item_is = let low = start.inside.low in let high = start.inside.high in let some = pow_pos region.log in (omega arith, omega arith)
-
     -- each step leaves the region's words
-    module _ (run : Run) (n : ℕ) (e : Entry) (more : Run) (t : T (run ++ (n, e) ∷ more)) (h : H run) (r : ℕ) (looks : Looks first run r region) where
-      left_by_writer : n ≡ 0 → (j : ℕ) → j < 2 ^ region.log → get_or (W (run ++ (n, e) ∷ [])) (b + region.at + j) 0 ≡ get_or (W run) (b + region.at + j) 0
-      left_by_writer z j low = subst (λ (k : ℕ). T (run ++ (k, e) ∷ more) → get_or (W (run ++ (k, e) ∷ [])) (b + region.at + j) 0 ≡ get_or (W run) (b + region.at + j) 0) (sym z) (λ t0. by t0 (is_array_word f b e.step) refl (writer_may host within law pieces origin run e more t0 h)) t
+    module _ (run : Run) (n : ℕ) (e : Entry) (more : Run) (t : IsTrue a (run ++ (n, e) ∷ more)) (h : Holds a run) (r : ℕ) (looks : Looks first run r region) where
+      left_by_writer : n ≡ 0 → (j : ℕ) → j < 2 ^ region.log → get_or (words a (run ++ (n, e) ∷ [])) (b + region.at + j) 0 ≡ get_or (words a run) (b + region.at + j) 0
+      left_by_writer z j low = subst (λ (k : ℕ). IsTrue a (run ++ (k, e) ∷ more) → get_or (words a (run ++ (k, e) ∷ [])) (b + region.at + j) 0 ≡ get_or (words a run) (b + region.at + j) 0) (sym z) (λ t0. by t0 (is_array_word f b e.step) refl (writer_may a run e more t0 h)) t
         where
-          by : (t0 : T (run ++ (0, e) ∷ more)) (own : Bool) → is_array_word f b e.step ≡ own → MayIf f b own (writer h.writer_state) e → get_or (W (run ++ (0, e) ∷ [])) (b + region.at + j) 0 ≡ get_or (W run) (b + region.at + j) 0
-          by t0 true on m = ap (λ (ws : List ℕ). get_or ws (b + region.at + j) 0) (words_next host within law pieces origin run 0 e more t0)
-              ∙ writer_leaves pl b (W run) e h.writer_state.log h.writer_state.region region start.inside j low (pending host within law pieces origin run) h.writer_state.stage (in_range b (b + array_words) (word_of e.step) on).0 h.invariant.unfinished m
-              (λ new u. pieces.apart origin run ((0, e) ∷ more) (item_from pl new) t0 (is_reusable host within law pieces origin run e more t0 h on new u) r looks.o region looks.low looks.section looks.linked item_is)
-          by t0 false off m = not_on host within law pieces origin run 0 e more t0 (b + region.at + j) (omega arith) (inside_array j low) off
+          by : (t0 : IsTrue a (run ++ (0, e) ∷ more)) (own : Bool) → is_array_word f b e.step ≡ own → MayIf f b own (writer h.writer_state) e → get_or (words a (run ++ (0, e) ∷ [])) (b + region.at + j) 0 ≡ get_or (words a run) (b + region.at + j) 0
+          by t0 true on m = ap (λ (ws : List ℕ). get_or ws (b + region.at + j) 0) (words_next a run 0 e more t0)
+              ∙ writer_leaves (place a) b (words a run) e h.writer_state.log h.writer_state.region region start.inside j low (pending a run) h.writer_state.stage (in_range b (b + array_words) (word_of e.step) on).0 h.invariant.unfinished m
+              (λ new u. pieces.apart origin run ((0, e) ∷ more) (item_from (place a) new) t0 (is_reusable a run e more t0 h on new u) r looks.o region looks.low looks.section looks.linked (region_is_item (place a) region start.inside))
+          by t0 false off m = not_on a run 0 e more t0 (b + region.at + j) (omega arith) (inside_array j low) off
 
-      left : (j : ℕ) → j < 2 ^ region.log → get_or (W (run ++ (n, e) ∷ [])) (b + region.at + j) 0 ≡ get_or (W run) (b + region.at + j) 0
-      left j low = dite (ℕ_discrete n 0) (λ (z : n ≡ 0). left_by_writer z j low) (λ (z : n ≢ 0). reader_leaves host within law pieces origin run n e more t z (b + region.at + j) (omega arith) (inside_array j low))
+      left : (j : ℕ) → j < 2 ^ region.log → get_or (words a (run ++ (n, e) ∷ [])) (b + region.at + j) 0 ≡ get_or (words a run) (b + region.at + j) 0
+      left j low = dite (ℕ_discrete n 0) (λ (z : n ≡ 0). left_by_writer z j low) (λ (z : n ≢ 0). reader_leaves a run n e more t z (b + region.at + j) (omega arith) (inside_array j low))
 
       -- and the section stays open, as long as the `all` goes on
-      not_ended : (read_stage_of (L (run ++ (n, e) ∷ []) (suc r)) ≡ no_read → ⊥) → n ≡ suc r → e.step ≡ Store (active_word r) 0 → ⊥
-      not_ended goes mine ends = goes (ap read_stage_of (ap (λ (k : ℕ). L (run ++ (k, e) ∷ []) (suc r)) mine ∙ (local_next host within law pieces origin run (suc r) e more (subst (λ (k : ℕ). T (run ++ (k, e) ∷ more)) mine t)
+      not_ended : (read_stage_of (local a (run ++ (n, e) ∷ []) (suc r)) ≡ no_read → ⊥) → n ≡ suc r → e.step ≡ Store (active_word r) 0 → ⊥
+      not_ended goes mine ends = goes (ap read_stage_of (ap (λ (k : ℕ). local a (run ++ (k, e) ∷ []) (suc r)) mine ∙ (local_next a run (suc r) e more (subst (λ (k : ℕ). IsTrue a (run ++ (k, e) ∷ more)) mine t)
           ∙ ap (λ (x : LocalState). array_next f b x e) y.1)) ∙ (ap (λ (own : Bool). read_stage_of (cond own (after_own f b (reader y.0) e) (after_other f b (reader y.0) e))) off ∙ ap (λ (s : Bool). (given_up f b s y.0).stage) section))
         where
-          y : (y : ReaderState) × (L run (suc r) ≡ reader y)
+          y : (y : ReaderState) × (local a run (suc r) ≡ reader y)
           y = reader_after f b first_reader (account (suc r) run)
 
           low_word : active_word r < f
@@ -141,7 +118,7 @@ module _ {D : Type 0} (host : Host D) (within : IsWithin array host.client host.
               by true on = let i = (in_range b (b + array_words) (word_of e.step) on).0 in let there : word_of e.step ≡ active_word r = ap word_of ends in absurd (omega arith)
               by false off = off
 
-      pub looks_on : (read_stage_of (L (run ++ (n, e) ∷ []) (suc r)) ≡ no_read → ⊥) → Looks first (run ++ (n, e) ∷ []) r region
+      pub looks_on : (read_stage_of (local a (run ++ (n, e) ∷ []) (suc r)) ≡ no_read → ⊥) → Looks first (run ++ (n, e) ∷ []) r region
       looks_on goes = record {
         low = looks.low;
         o = looks.o;

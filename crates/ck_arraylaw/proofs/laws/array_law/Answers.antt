@@ -7,4 +7,4 @@ pub pieces_law-requires : goal.pieces_law-requires
 pieces_law-requires g c = record { retires = retires_regions (host g.D.Client.meaning g.D.Within.place g.D.Within.part) g.met.D.Within.within }
 
 pub returns : goal.returns
-returns g c = λ origin. array_law (host g.D.Client.meaning g.D.Within.place g.D.Within.part) g.met.D.Within.within c.reclamation_law.ensures c.pieces_law.ensures origin
+returns g c = λ origin. array_law (record { host = host g.D.Client.meaning g.D.Within.place g.D.Within.part; within = g.met.D.Within.within; law = c.reclamation_law.ensures; pieces = c.pieces_law.ensures; origin = origin })
