@@ -37,7 +37,8 @@ use Rattle.ck_array.specs.Reads.{resting}
 use Rattle.ck_array.proofs.Elsewhere.{writer_number, reader_number}
 use Rattle.ck_array.proofs.EventSteps.{IsIdle, no_read_is, edits_of, replies_of, log_grows, adds_one}
 use Rattle.ck_array.proofs.Placing.{mono, places_law}
-use Rattle.ck_array.proofs.Counts.{settled, answers_long, few_given, log_is_whole, has_logged}
+use Rattle.ck_array.proofs.Counts.{settled, answers_long, few_given, log_is_whole}
+use Rattle.ck_arraylaw.proofs.Reaching.{has_logged}
 
 -- the words that are left stand as those of the run did
 words_stand : (o : Origin (Signals ArrayClient)) (run : Run) (words members : List ℕ) → WordsStand with_signals o run → words ≡ drop (base_of o) (replay o.words run) → committed_in with_signals o run ≡ members → ArrayStandsFor words members

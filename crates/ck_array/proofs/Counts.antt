@@ -1,25 +1,22 @@
 -- What the signals of an array count are its own log and answers, in every true run.
-use Rattle.std.proofs.Common.{◌≡◌, ℕ, suc, ◌+◌, ◌≤◌, true, List, ◌++◌, length, length-append, sym, ap, ◌∙◌, arith}
+use Rattle.std.proofs.Common.{◌≡◌, ℕ, suc, ◌≤◌, true, List, ◌++◌, length, sym, ap, ◌∙◌, arith, add-zero}
 use Rattle.std.proofs.lemmas.List.{length-map}
 use Rattle.ck_run.specs.Run.{Run, account}
 use Rattle.ck_history.specs.declared.edit.Edit.{Edit}
 use Rattle.ck_history.specs.Lists.{empty_lists}
 use Rattle.ck_epoch.specs.State.{Origin, base_of}
 use Rattle.ck_signal.specs.declared.signals.Signals.{Signals}
-use Rattle.ck_signal.specs.Told.{IsRunOf, log_during, answers_during}
+use Rattle.ck_signal.specs.Told.{IsRunOf, answers_during}
 use Rattle.ck_events.proofs.Placed.{known_in, given_in}
 use Rattle.ck_arraylaw.specs.declared.client.ArrayClient.{ArrayClient}
 use Rattle.ck_arraylaw.specs.Array.{CommitStage, LocalState, edits_at}
 use Rattle.ck_arraylaw.specs.Client.{array, local_after, logged, answers_of}
-use Rattle.ck_arraylaw.specs.Law.{ArrayLaw, log_in, linearized, edits_by as edits_of_local}
+use Rattle.ck_arraylaw.specs.Law.{linearized, edits_by as edits_of_local}
 use Rattle.ck_arraylaw.specs.Reached.{with_signals}
 use Rattle.ck_array.specs.Answered.{answers_in}
 use Rattle.ck_array.specs.Events.{answer_of, known}
 use Rattle.ck_array.proofs.EventSteps.{IsIdle, idle_is}
-use Rattle.ck_array.proofs.SignalSteps.{replied_long}
-
-plus_none : (a : ℕ) → a ≡ a + 0
-plus_none a = omega arith
+use Rattle.ck_arraylaw.proofs.Reaching.{replied_long}
 
 -- a writer between two edits has all edits in its log that have taken place
 pub settled : (h : LocalState) → IsIdle h → edits_of_local h ≡ logged h
@@ -32,17 +29,10 @@ module _ (o : Origin (Signals ArrayClient)) where
 
   pub few_given : (run : Run) (r : ℕ) → answers_during array o run r ≤ length (given_in array o (known o) run r)
   few_given run r =
-      let same : answers_during array o run r ≡ length (answers_in with_signals o run r) = ap (λ (first : ℕ). length (answers_of (local_after (base_of o) first (suc r) (account (suc r) run)))) (plus_none (base_of o)) in
+      let same : answers_during array o run r ≡ length (answers_in with_signals o run r) = ap (λ (first : ℕ). length (answers_of (local_after (base_of o) first (suc r) (account (suc r) run)))) (sym (add-zero (base_of o))) in
       let long = answers_long run r in omega arith
 
   pub log_is_whole : (past rest : Run) → IsRunOf array o (past ++ rest) → (known o).is_idle (known_in array o (known o) past 0) ≡ true → linearized with_signals o past ≤ length ((known o).log (known_in array o (known o) past 0))
   log_is_whole past rest t free =
       let h : LocalState = known_in array o (known o) past 0 in
       let all = ap (λ (l : List Edit). length l) (settled h (idle_is h free)) in let long = replied_long empty_lists (logged h) in omega arith
-
-  pub has_logged : ArrayLaw with_signals o → (past rest : Run) → IsRunOf array o (past ++ rest) → length (log_during array o past) ≤ linearized with_signals o past
-  has_logged law past rest t =
-      let same : length (log_during array o past) ≡ length (log_in with_signals o past) = replied_long empty_lists (logged (local_after (base_of o) (base_of o) 0 (account 0 past))) ∙ ap (λ (first : ℕ). length (logged (local_after (base_of o) first 0 (account 0 past)))) (plus_none (base_of o)) in
-      let all = law.log past rest t in
-      let longer = ap (λ (l : List Edit). length l) all.1 ∙ length-append (log_in with_signals o past) all.0 in
-      omega arith

@@ -1,6 +1,5 @@
 -- In every true run the answers of each reader have places that don't fall.
 use Rattle.std.proofs.Common.{◌≡◌, ℕ, suc, ◌≤◌, List, [], ◌∷◌, ◌++◌, length, length-append, append-nil, append_assoc, refl, sym, ap, ◌∙◌, subst, arith}
-use Rattle.std.proofs.Math.Seq.{take-length}
 use mathlib.Core.Option.{some}
 use lib.ListN.{get_elem?}
 use Rattle.ck_run.specs.declared.account.Entry.{Entry}
@@ -9,8 +8,7 @@ use Rattle.ck_run.specs.Machine.{state_after}
 use Rattle.ck_run.proofs.Runs.{account-append}
 use Rattle.ck_run.proofs.Law.{state-append}
 use Rattle.ck_history.specs.declared.edit.Edit.{Edit}
-use Rattle.ck_history.specs.Lists.{empty_lists, lists_after_from, committed_after}
-use Rattle.ck_history.proofs.Placing.{committed_after-append}
+use Rattle.ck_history.specs.Lists.{committed_after}
 use Rattle.ck_epoch.specs.State.{Origin}
 use Rattle.ck_events.proofs.Places.{IsPlaced, have_places}
 use Rattle.ck_arraylaw.specs.Array.{LocalState, array_next}
@@ -20,6 +18,7 @@ use Rattle.ck_arraylaw.specs.Law.{ArrayLaw, IsArrayRun, local_in, edits_in, line
 use Rattle.ck_arraylaw.specs.Laws.{answers_go_on}
 use Rattle.ck_array.specs.Answered.{answers_in, IsOut, HasPlace, PlacesLaw}
 use Rattle.ck_array.proofs.Answering.{answered_all}
+use Rattle.ck_arraylaw.proofs.Reaching.{committed_then}
 
 answers_grow : (f b : ℕ) (h : LocalState) (es : List Entry) → length (answers_of h) ≤ length (answers_of (state_after (array_next f b) h es))
 answers_grow f b h [] = omega arith
@@ -74,8 +73,7 @@ module _ {D : Type 0} (host : Host D) (origin : Origin D) (law : ArrayLaw host o
           let us = edits_in host origin a.past in
           let g = law.grows a.past ahead [] (subst True (to_first ∙ ap (λ (m : Run). a.past ++ m) (sym (append-nil ahead))) t) in
           law.answers a.past a.between a.rest r a.first a.last members (subst True a.splits t) (record { starts = a.starts; goes = a.goes }) a.ends
-          ∙ (ap (λ (l : List Edit). (lists_after_from empty_lists l).committed) (sym (take-length us))
-          ∙ (sym (committed_after-append us g.0 (length us) (omega arith)) ∙ ((λ j. committed_after (sym g.1 j) (length us)) ∙ (λ j. committed_after (edits_in host origin (sym to_first j)) (h.is j)))))
+          ∙ (committed_then us g.0 ∙ ((λ j. committed_after (sym g.1 j) (length us)) ∙ (λ j. committed_after (edits_in host origin (sym to_first j)) (h.is j))))
 
   pub places_law : PlacesLaw host origin
   places_law run r t =
