@@ -1,5 +1,5 @@
 -- A reader's loads within an `all`: that the array allows them, and where they leave the pass.
-use Rattle.std.proofs.Common.{◌≡◌, ℕ, suc, ◌+◌, ◌<◌, ◌==◌, Bool, true, false, cond, ◌&&◌, leb, ltb, inl, List, [], ◌∷◌, ◌++◌, length, refl, sym, ap, ◌∙◌, subst, arith}
+use Rattle.std.proofs.Common.{◌≡◌, ℕ, suc, ◌+◌, ◌<◌, ◌==◌, Bool, true, false, cond, ◌&&◌, leb, ltb, inl, List, [], ◌∷◌, ◌++◌, length, refl, sym, ap, ◌∙◌, subst, arith, add-zero}
 use Rattle.std.proofs.lemmas.Bool.Decides.{nat_tests}
 use Rattle.ck_run.specs.declared.account.Step.TheVariants.{Load}
 use Rattle.ck_run.specs.declared.account.Entry.{Entry}
@@ -12,7 +12,7 @@ use Rattle.ck_epoch.specs.Calls.{MayFollow}
 use Rattle.ck_epoch.specs.Within.{IsWithin}
 use Rattle.ck_arraylaw.specs.Calls.{all, is_single_load}
 use Rattle.ck_arraylaw.specs.Host.{Host, floor_word, base_word}
-use Rattle.ck_arraylaw.specs.Layout.{array_words, members_at}
+use Rattle.ck_arraylaw.specs.Layout.{array_words, members_at, region_at}
 use Rattle.ck_arraylaw.specs.Array.{at_length, at_member, ReaderState, LocalState, writer, reader, MayRead, MayIf, after_read, after_own, after_other, collected, collects, read_next, is_array_word, array_next}
 use Rattle.ck_arraylaw.specs.Client.{array}
 use Rattle.ck_arraylaw.specs.Known.{knows}
@@ -46,10 +46,7 @@ module _ {D : Type 0} (h : Host D) (o : Origin D) where
 
 -- the loads of one member more
 pub member_loads-push : (word x : ℕ) (members : List ℕ) → member_loads word (members ++ x ∷ []) ≡ member_loads word members ++ further (Load (word + length members) x) ∷ []
-member_loads-push word x [] = ap (λ (k : ℕ). further (Load k x) ∷ []) (none word)
-  where
-    none : (w : ℕ) → w ≡ w + 0
-    none w = omega arith
+member_loads-push word x [] = ap (λ (k : ℕ). further (Load k x) ∷ []) (sym (add-zero word))
 member_loads-push word x (m ∷ members) = ap (λ (l : List Entry). further (Load word m) ∷ l) (member_loads-push (suc word) x members ∙ ap (λ (k : ℕ). member_loads (suc word) members ++ further (Load k x) ∷ []) (along word (length members)))
   where
     along : (w n : ℕ) → suc w + n ≡ w + suc n
@@ -70,12 +67,18 @@ reading_next answers at n members x = go (length (members ++ x ∷ []) == n)
     go true = refl
     go false = refl
 
-pub reading_first : (answers : List (List ℕ)) (at count : ℕ) → read_next (record { stage = at_length at; answers = answers }) (at_length at) count ≡ reading answers at (members_at at count) []
+reading_first : (answers : List (List ℕ)) (at count : ℕ) → read_next (record { stage = at_length at; answers = answers }) (at_length at) count ≡ reading answers at (members_at at count) []
 reading_first answers at count = go (0 == members_at at count)
   where
     go : (b : Bool) → collected (record { stage = at_length at; answers = answers }) at (members_at at count) [] b ≡ collected (resting answers) at (members_at at count) [] b
     go true = refl
     go false = refl
+
+-- it has loaded the root and this number, and cut both as the code does
+pub reading_begun : (h : LocalState) (answers : List (List ℕ)) (root at count most : ℕ) → h ≡ reader (read_next (record { stage = at_length (region_at root); answers = answers }) (at_length (region_at root)) count) → at ≡ region_at root → most ≡ members_at at count
+    → h ≡ reader (reading answers at most [])
+reading_begun h answers root at count most local at_is most_is =
+    local ∙ (ap reader (reading_first answers (region_at root) count) ∙ (λ i. reader (reading answers (sym at_is i) ((ap (λ (k : ℕ). members_at k count) (sym at_is) ∙ sym most_is) i) [])))
 
 -- or has them all
 pub reading_done : (answers : List (List ℕ)) (at n : ℕ) (members : List ℕ) → length members ≡ n → reading answers at n members ≡ resting (answers ++ members ∷ [])

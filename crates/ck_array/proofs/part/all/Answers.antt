@@ -2,21 +2,18 @@ use Rattle.std.proofs.Common.{◌≡◌, ℕ, ◌+◌, ◌<◌, min, List, [], �
 use Rattle.std.specs.declared.alloc.AllocFailed.{AllocFailed}
 use Rattle.ck_run.specs.Tokens.{adding}
 use Rattle.ck_arraylaw.specs.Host.{host, base_word}
-use Rattle.ck_arraylaw.specs.Layout.{region_at, members_at}
+use Rattle.ck_arraylaw.specs.Layout.{region_at}
 use Rattle.ck_arraylaw.specs.Array.{at_length, at_member, reader}
 use Rattle.ck_array.specs.Reads.{member_loads}
-use Rattle.ck_array.proofs.Loading.{reading, reading_first, reading_more, reading_next, reading_done, same_pass, next_member, one_more_load}
+use Rattle.ck_array.proofs.Loading.{reading, reading_more, reading_next, reading_done, same_pass, next_member, one_more_load, reading_begun}
 use Rattle.ck_array.proofs.part.all.Goals as goal
 
 pub load-member-requires-clause-due : goal.load-member-requires-clause-due
 load-member-requires-clause-due g c =
     let inv = c.loop-i.invariant in
     let answers : List (List ℕ) = c.requires.resting.0 in
-    let root_is = c.load_root-root.ensures.local answers c.requires.resting.1 in
-    let count_is = c.load-count.ensures.local (record { stage = at_length (region_at c.load_root-root.result); answers = answers }) root_is in
-    let at_is : region_at c.load_root-root.result ≡ c.min-at.result = sym c.min-at.ensures in
-    let most_is : members_at c.min-at.result c.load-count.result ≡ c.min-most.result = sym (c.min-most.ensures ∙ ap (λ (k : ℕ). min k (32768 - c.min-at.result)) c.min.ensures) in
-    let first = count_is ∙ (ap reader (reading_first answers (region_at c.load_root-root.result) c.load-count.result) ∙ ap (λ (p : ℕ × ℕ). reader (reading answers p.0 p.1 [])) (λ i. (at_is i, (ap (λ (k : ℕ). members_at k c.load-count.result) at_is ∙ most_is) i))) in
+    let count_is = c.load-count.ensures.local (record { stage = at_length (region_at c.load_root-root.result); answers = answers }) (c.load_root-root.ensures.local answers c.requires.resting.1) in
+    let first = reading_begun _ answers c.load_root-root.result c.min-at.result c.load-count.result c.min-most.result count_is c.min-at.ensures (c.min-most.ensures ∙ ap (λ (k : ℕ). min k (32768 - c.min-at.result)) c.min.ensures) in
     let less : length c.loop-i.out.items < c.min-most.result = let filled = inv.filled in let test = c.loop-i-test.true in omega arith in
     record {
       state = record { stage = at_member c.min-at.result c.min-most.result c.loop-i.out.items; answers = answers };
@@ -52,10 +49,7 @@ loop-i-preserved g c =
 pub returns-clause-answers : goal.returns-clause-answers
 returns-clause-answers g c answers local =
     let inv = c.loop-i.invariant in
-    let root_is = c.load_root-root.ensures.local answers local in
-    let count_is = c.load-count.ensures.local (record { stage = at_length (region_at c.load_root-root.result); answers = answers }) root_is in
-    let at_is : region_at c.load_root-root.result ≡ c.min-at.result = sym c.min-at.ensures in
-    let most_is : members_at c.min-at.result c.load-count.result ≡ c.min-most.result = sym (c.min-most.ensures ∙ ap (λ (k : ℕ). min k (32768 - c.min-at.result)) c.min.ensures) in
-    let first = count_is ∙ (ap reader (reading_first answers (region_at c.load_root-root.result) c.load-count.result) ∙ ap (λ (p : ℕ × ℕ). reader (reading answers p.0 p.1 [])) (λ i. (at_is i, (ap (λ (k : ℕ). members_at k c.load-count.result) at_is ∙ most_is) i))) in
+    let count_is = c.load-count.ensures.local (record { stage = at_length (region_at c.load_root-root.result); answers = answers }) (c.load_root-root.ensures.local answers local) in
+    let first = reading_begun _ answers c.load_root-root.result c.min-at.result c.load-count.result c.min-most.result count_is c.min-at.ensures (c.min-most.ensures ∙ ap (λ (k : ℕ). min k (32768 - c.min-at.result)) c.min.ensures) in
     let full : length c.loop-i.out.items ≡ c.min-most.result = let filled = inv.filled in let test = c.loop-i-test.false in let end = c.loop-i.auto.i-end in omega arith in
     inv.local answers first ∙ ap reader (reading_done answers c.min-at.result c.min-most.result c.loop-i.out.items full)
