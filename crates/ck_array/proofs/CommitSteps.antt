@@ -1,5 +1,5 @@
 -- The steps of a commit: that the array allows them, and where they leave the writer.
-use Rattle.std.proofs.Common.{◌≡◌, ℕ, suc, ◌+◌, ◌-◌, ◌^◌, ◌<◌, ◌≤◌, ⊎_elim, Bool, true, false, cond, ◌&&◌, leb, ltb, nat_le, nat_lt, inl, inr, List, [], ◌∷◌, ◌++◌, length, drop, append_assoc, get_or, refl, sym, ap, ◌∙◌, subst, arith}
+use Rattle.std.proofs.Common.{◌≡◌, ℕ, suc, ◌+◌, ◌-◌, ◌^◌, ◌<◌, ◌≤◌, ⊎_elim, Bool, true, false, cond, ◌&&◌, nat_le, nat_lt, inl, inr, List, [], ◌∷◌, ◌++◌, length, drop, append_assoc, get_or, refl, sym, ap, ◌∙◌, subst, arith}
 use Rattle.std.specs.Prelude.{All}
 use Rattle.std.specs.FinSet as set
 use Rattle.std.proofs.lemmas.Bool.Decides.{nat_tests}
@@ -35,18 +35,14 @@ use Rattle.ck_array.specs.declared.state.ArrayState.{ArrayState}
 use Rattle.ck_array.specs.Writes.{commit_entries, filling_by, idle, largest_log, member_stores, region_piece, IsArenaOfArray, IsReady, IsStoreDue}
 use Rattle.ck_array.proofs.EditSteps.{lists_next}
 use Rattle.ck_array.proofs.Loading.{own_word}
+use Rattle.ck_array.proofs.Elsewhere.{below}
+use Rattle.ck_arraylaw.proofs.Words.{range_in}
 
 less : (i n : ℕ) → i < n → nat_lt i n ≡ true
 less i n h = grind (arith, nat_tests)
 
 not_less : (n : ℕ) → nat_lt n n ≡ false
 not_less n = grind (arith, nat_tests)
-
-below : (a b c : ℕ) → c < a → leb a c && ltb c b ≡ false
-below a b c h = grind (arith, nat_tests)
-
-within_range : (a b c : ℕ) → a ≤ c → c < b → leb a c && ltb c b ≡ true
-within_range a b c l h = grind (arith, nat_tests)
 
 module _ {D : Type 0} (h : Host D) (o : Origin D) where
   abbrev f : ℕ
@@ -122,7 +118,7 @@ module _ {D : Type 0} (h : Host D) (o : Origin D) where
     off n = below b (b + array_words) 0 (omega arith)
 
     is_mine : is_array_item f b ((place_in h o + old.at) ∷ old.log ∷ []) ≡ true
-    is_mine = let high = inside.high in let some = pow_pos old.log in within_range b (b + array_words) (f + (place_in h o + old.at)) (omega arith) (omega arith)
+    is_mine = let high = inside.high in let some = pow_pos old.log in range_in b (b + array_words) (f + (place_in h o + old.at)) (omega arith) (omega arith)
 
     pub may_retire : IsWithin array h.client h.place h.part → (t : Token D) → origin t ≡ o → IsDomainToken h.client t → (p : WriterState) → knows h o t ≡ writer p → p.stage ≡ replaced old → (n : ℕ) → MayFollow h.client t (retires_by n)
     may_retire within t same part p local replaces n =

@@ -17,7 +17,7 @@ use Rattle.ck_arraylaw.specs.Known.{knows}
 use Rattle.ck_arraylaw.proofs.Tokens.{reader_after, writer_after}
 use Rattle.ck_array.specs.Reads.{resting}
 
-below : (a b c : ℕ) → c < a → leb a c && ltb c b ≡ false
+pub below : (a b c : ℕ) → c < a → leb a c && ltb c b ≡ false
 below a b c h = grind (arith, nat_tests)
 
 pub beyond : (a b c : ℕ) → b ≤ c → leb a c && ltb c b ≡ false
