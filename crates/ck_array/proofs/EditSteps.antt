@@ -70,6 +70,10 @@ module _ {D : Type 0} (h : Host D) (o : Origin D) (log : List Edit) (region : It
 pub lists_next : (s : ListState) (log : List Edit) (e : Edit) → s ≡ lists_after_from empty_lists log → (list_step s e).0 ≡ lists_after_from empty_lists (log ++ e ∷ [])
 lists_next s log e is = ap (λ (x : ListState). (list_step x e).0) is ∙ sym (after-append empty_lists log (e ∷ []))
 
+-- what isn't given back stays where nothing is retired nor dispatched
+pub same_items : {D F : Type 0} (w v : Writer D F) → SameItemsAndEpoch w.token v.token → v.waiting ≡ w.waiting → unreturned (state v.token) v.waiting ≡ unreturned (state w.token) w.waiting
+same_items w v same waits i = unreturned (record (state v.token) { pending = same.0 i; dispatched = same.1 i }) (waits i)
+
 -- a writer that made one step on the array's words is ready as before, but for its lists
 pub ready_next : {D F : Type 0} (h : Host D) (o : Origin D) (w v : Writer D F) (s s' : ArrayState) (log : List Edit) (e : Entry) (r : IsReady h o w s) → v ≡ record w { token = adding w.token (e ∷ []) } → SameItemsAndEpoch w.token v.token
     → knows h o v.token ≡ writer (idle log s.region) → s'.lists ≡ lists_after_from empty_lists log → s' ≡ record s { lists = s'.lists } → IsReady h o v s'
@@ -80,8 +84,5 @@ ready_next {D} {F} h o w v s s' log e r made same local lists is = subst (IsRead
   inside = r.inside;
   short = r.short;
   arena = r.arena;
-  kept = subst (λ (ks : List Retired). IsKept (IsArrayItem (place_in h o)) (place_in h o) (region_piece s.region) ks s.arena) items r.kept;
+  kept = subst (λ (ks : List Retired). IsKept (IsArrayItem (place_in h o)) (place_in h o) (region_piece s.region) ks s.arena) (sym (same_items w v same (ap (λ (x : Writer D F). x.waiting) made))) r.kept;
 }
-  where
-    items : unreturned (state w.token) w.waiting ≡ unreturned (state v.token) v.waiting
-    items i = unreturned (record (state v.token) { pending = sym same.0 i; dispatched = sym same.1 i }) (sym (ap (λ (x : Writer D F). x.waiting) made) i)

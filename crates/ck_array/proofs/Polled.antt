@@ -2,8 +2,8 @@
 use Rattle.std.proofs.Common.{◌≡◌, ℕ, ◌+◌, ◌-◌, ◌≤◌, List, [], length, append-nil, refl, sym, ap, ◌∙◌, subst, arith}
 use Rattle.std.specs.Prelude.{Option}
 use Rattle.ck_run.specs.declared.account.Entry.{Entry}
-use Rattle.ck_run.specs.Tokens.{origin, table}
-use Rattle.ck_words.specs.Buddies.{Arena, Piece, piece, with_pieces_out}
+use Rattle.ck_run.specs.Tokens.{table}
+use Rattle.ck_words.specs.Buddies.{Arena, piece, with_pieces_out}
 use Rattle.ck_history.specs.declared.edit.Edit.{Edit}
 use Rattle.ck_history.specs.declared.log.Busy.{Busy}
 use Rattle.ck_epoch.specs.State.{Origin, barrier, records_of, state}
@@ -33,12 +33,10 @@ use Rattle.ck_array.proofs.EventSteps.{edits_are_events}
 pub goes_home : (o : Origin (Signals ArrayClient)) → GoHome home_of (place_in with_signals o)
 goes_home o k = ap (λ (a : ℕ). piece a k.item.log) (let z : k.item.at ≡ k.item.at - place_in with_signals o = omega arith in z)
 
-module _ {F : Type 0} (o : Origin (Signals ArrayClient)) (w v : Writer (Signals ArrayClient) F) (s : ArrayState) (r : IsWriterReady o w s) where
-  abbrev place : ℕ
-  place = place_in with_signals o
-
+module _ {F : Type 0} (o : Origin (Signals ArrayClient)) (w v : Writer (Signals ArrayClient) F) (s : ArrayState) (a : Arena) (r : IsWriterReady o w s) (same : v ≡ record w { token = v.token; calls = w.calls + 1 }) (is : a ≡ with_pieces_out s.arena a.out)
+    (kept : KeepsAll (IsArrayItem (place_in with_signals o)) (place_in with_signals o) (region_piece s.region) (unreturned (state v.token) v.waiting) a) where
   -- after steps on the words of the epochs
-  module _ (same : v ≡ record w { token = v.token; calls = w.calls + 1 }) (es : (es : List Entry) × AreOfEpochs (records_of o) w.token v.token es) where
+  module _ (es : (es : List Entry) × AreOfEpochs (records_of o) w.token v.token es) where
     local : knows with_signals o v.token ≡ writer (idle r.ready.log s.region)
     local = hand_stays with_signals o w.token v.token es.0 (idle r.ready.log s.region) es.1.0 (below_all with_signals o es.0 es.1.1) r.ready.local
 
@@ -48,8 +46,8 @@ module _ {F : Type 0} (o : Origin (Signals ArrayClient)) (w v : Writer (Signals 
     events : hand_events o v.token ≡ hand_events o w.token
     events = edits_are_events o w.token v.token es.0 [] es.1.0 es.1.2 (log ∙ sym (append-nil (edits_by o w.token))) ∙ append-nil (hand_events o w.token)
 
-    ready_given : (a : Arena) → a ≡ with_pieces_out s.arena a.out → KeepsAll (IsArrayItem place) place (region_piece s.region) (unreturned (state v.token) v.waiting) a → IsWriterReady o v (record s { arena = a })
-    ready_given a is kept = record {
+    ready_given : IsWriterReady o v (record s { arena = a })
+    ready_given = record {
       ready = record {
         log = r.ready.log;
         local = local;
@@ -66,26 +64,19 @@ module _ {F : Type 0} (o : Origin (Signals ArrayClient)) (w v : Writer (Signals 
       few = (let few = r.few in let a = ap (λ (x : Writer (Signals ArrayClient) F). x.tally) same in let c = ap (λ (x : Writer (Signals ArrayClient) F). x.calls) same in omega arith);
     }
 
-  pub has_polled : (found : Option Busy) (a : Arena) → v ≡ record w { token = v.token; calls = w.calls + 1 } → table v.token ≡ table w.token → PollsOnce o w.token found v.token → a ≡ with_pieces_out s.arena a.out
-      → KeepsAll (IsArrayItem place) place (region_piece s.region) (unreturned (state v.token) v.waiting) a → HasPolled o w s found v (record s { arena = a })
-  has_polled found a same same_table p is kept = let es = poll_steps (records_of o) (state w.token).epoch w.token v.token p.0 p.1 in record {
+  pub has_polled : (found : Option Busy) → table v.token ≡ table w.token → PollsOnce o w.token found v.token → HasPolled o w s found v (record s { arena = a })
+  has_polled found same_table p = let es = poll_steps (records_of o) (state w.token).epoch w.token v.token p.0 p.1 in record {
     same = same;
     same_table = same_table;
     lists = refl;
-    log = log same es;
-    events = events same es;
+    log = log es;
+    events = events es;
     answer = p.0;
     polls = p.1;
     found_is = p.2;
     pending = p.3;
-    ready = ready_given same es a is kept;
+    ready = ready_given es;
   }
 
--- after a barrier, of a writer whose own origin is this
-pub waited : {F : Type 0} (o : Origin (Signals ArrayClient)) (w v : Writer (Signals ArrayClient) F) (s : ArrayState) (a : Arena) → origin w.token ≡ o → IsWriterReady (origin w.token) w s → v ≡ record w { token = v.token; calls = w.calls + 1 }
-    → Rounds (records_of o) barrier (state w.token).epoch w.token v.token → a ≡ with_pieces_out s.arena a.out
-    → ((present : Piece) → KeepsAll (IsArrayItem (place_in with_signals o)) (place_in with_signals o) present (unreturned (state w.token) w.waiting) s.arena → KeepsAll (IsArrayItem (place_in with_signals o)) (place_in with_signals o) present (unreturned (state v.token) v.waiting) a)
-    → (edits_by o v.token ≡ edits_by o w.token) × (hand_events o v.token ≡ hand_events o w.token) × IsWriterReady o v (record s { arena = a })
-waited o w v s a at was same rounds is kept =
-    let r = subst (λ (x : Origin (Signals ArrayClient)). IsWriterReady x w s) at was in let es = barrier_steps (records_of o) (state w.token).epoch w.token v.token rounds in
-    (log o w v s r same es, events o w v s r same es, ready_given o w v s r same es a is (kept (region_piece s.region) (r.ready.kept, r.own)))
+  pub has_waited : Rounds (records_of o) barrier (state w.token).epoch w.token v.token → (edits_by o v.token ≡ edits_by o w.token) × (hand_events o v.token ≡ hand_events o w.token) × IsWriterReady o v (record s { arena = a })
+  has_waited rounds = let es = barrier_steps (records_of o) (state w.token).epoch w.token v.token rounds in (log es, events es, ready_given es)

@@ -1,5 +1,5 @@
 -- The signal calls of an array, and its sections: they leave its tokens where they stand, and are events or none.
-use Rattle.std.proofs.Common.{◌≡◌, ℕ, suc, ◌+◌, ◌<◌, ◌≤◌, ◌⊎◌, ⊎_elim, inl, inr, false, List, [], ◌∷◌, ◌++◌, length, map, refl, sym, ap, ◌∙◌, subst, arith}
+use Rattle.std.proofs.Common.{◌≡◌, ℕ, ◌+◌, ◌<◌, ◌≤◌, ◌⊎◌, ⊎_elim, inl, inr, false, List, [], ◌∷◌, ◌++◌, length, map, refl, sym, ap, ◌∙◌, subst, arith, add-zero}
 use Rattle.std.specs.Prelude.{Result}
 use Rattle.ck_run.specs.declared.account.Step.{Step}
 use Rattle.ck_run.specs.declared.account.Entry.{Entry}
@@ -8,8 +8,8 @@ use Rattle.ck_run.specs.Tokens.{adding, did, number, origin}
 use Rattle.ck_history.specs.declared.edit.Edit.{Edit}
 use Rattle.ck_history.specs.declared.event.ReaderEvent.TheVariants.{Reached}
 use Rattle.ck_history.specs.declared.event.WriterEvent.TheVariants.{Told}
-use Rattle.ck_history.specs.Lists.{ListState, list_step, empty_lists}
-use Rattle.ck_epoch.specs.State.{Origin, base_of, state}
+use Rattle.ck_history.specs.Lists.{empty_lists}
+use Rattle.ck_epoch.specs.State.{Origin, base_of}
 use Rattle.ck_epoch.specs.Calls.{SameItemsAndEpoch, StepsBelow}
 use Rattle.ck_epoch.specs.Ends.{Pass, Writer}
 use Rattle.ck_signal.specs.declared.signals.Signals.{Signals}
@@ -18,10 +18,10 @@ use Rattle.ck_signal.specs.Signals.{readers}
 use Rattle.ck_signal.specs.Told.{applied_word_of, answered_word_of, writer_log, pass_answers}
 use Rattle.ck_events.proofs.Steps.{silent_below, Reaches, reaches_once}
 use Rattle.ck_events.proofs.Steps as steps
-use Rattle.ck_arena.specs.Arena.{AreItems, unreturned}
+use Rattle.ck_arena.specs.Arena.{AreItems}
 use Rattle.ck_arraylaw.specs.declared.client.ArrayClient.{ArrayClient}
 use Rattle.ck_arraylaw.specs.Array.{LocalState, is_array_word}
-use Rattle.ck_arraylaw.specs.Client.{array, local_after, logged, answers_of, replied, replied_from}
+use Rattle.ck_arraylaw.specs.Client.{array, local_after, logged, answers_of, replied}
 use Rattle.ck_arraylaw.specs.Host.{floor_word, base_word}
 use Rattle.ck_arraylaw.specs.Known.{knows}
 use Rattle.ck_arraylaw.specs.Law.{read_stage_of}
@@ -32,18 +32,11 @@ use Rattle.ck_array.specs.declared.state.ArrayState.{ArrayState}
 use Rattle.ck_array.specs.Reads.{resting}
 use Rattle.ck_array.specs.Writes.{idle}
 use Rattle.ck_array.specs.Ends.{edits_by, IsPassReady, IsWriterReady}
-use Rattle.ck_array.specs.Events.{answer_of, is_no_read, is_idle_writer, known, pass_events, hand_events}
-use Rattle.ck_array.proofs.EditSteps.{ready_next}
+use Rattle.ck_array.specs.Events.{answer_of, is_no_read, is_idle_writer, known, pass_events, hand_events, Writing}
+use Rattle.ck_array.proofs.EditSteps.{ready_next, same_items}
 use Rattle.ck_array.proofs.Elsewhere.{AreElsewhere, beyond, below_all, reader_still, pass_stays, hand_stays, writer_still, writer_number, reader_number}
 use Rattle.ck_array.proofs.EventSteps.{answers_grow}
-
-plus_none : (a : ℕ) → a ≡ a + 0
-plus_none a = omega arith
-
--- each edit has a reply
-pub replied_long : (s : ListState) (es : List Edit) → length (replied_from s es) ≡ length es
-replied_long s [] = refl
-replied_long s (e ∷ es) = ap suc (replied_long (list_step s e).0 es)
+use Rattle.ck_arraylaw.proofs.Reaching.{replied_long}
 
 module _ (o : Origin (Signals ArrayClient)) where
   abbrev f : ℕ
@@ -106,18 +99,18 @@ module _ (o : Origin (Signals ArrayClient)) where
   answers_counted p same r =
       let n = reader_number f b (number p.token) (did p.token) (resting r.answers) r.local in
       r.tally ∙ (ap (λ (x : LocalState). length (answers_of x)) (sym r.local) ∙ (ap (λ (m : ℕ). length (answers_of (local_after f b m (did p.token)))) n.1
-      ∙ (ap (λ (first : ℕ). length (answers_of (local_after (base_of o) first 1 (did p.token)))) (sym (plus_none (base_of o)))
+      ∙ (ap (λ (first : ℕ). length (answers_of (local_after (base_of o) first 1 (did p.token)))) (add-zero (base_of o))
       ∙ ap (λ (q : Origin (Signals ArrayClient)). length (answers_of (local_after (base_of q) (base_of q) 1 (did p.token)))) (sym same))))
 
   -- a writer with its state that made steps elsewhere, and retired and dispatched nothing
-  pub writer_beside : {F : Type 0} (w v : Writer (Signals ArrayClient) F) (s : ArrayState) (e : Entry) → IsWriterReady o w s → v ≡ record w { token = adding w.token (e ∷ []) } → is_array_word f b e.step ≡ false → e.item ≡ [] → SameItemsAndEpoch w.token v.token → IsWriterReady o v s × (edits_by o v.token ≡ edits_by o w.token)
+  writer_beside : {F : Type 0} (w v : Writer (Signals ArrayClient) F) (s : ArrayState) (e : Entry) → IsWriterReady o w s → v ≡ record w { token = adding w.token (e ∷ []) } → is_array_word f b e.step ≡ false → e.item ≡ [] → SameItemsAndEpoch w.token v.token → IsWriterReady o v s × (edits_by o v.token ≡ edits_by o w.token)
   writer_beside {F} w v s e r made off none same =
       let token = ap (λ (x : Writer (Signals ArrayClient) F). x.token) made in
       let local = hand_stays with_signals o w.token v.token (e ∷ []) (idle r.ready.log s.region) token (off, none, tt) r.ready.local in
       let log : edits_by o v.token ≡ edits_by o w.token = ap logged (local ∙ sym r.ready.local) in (
         record {
           ready = ready_next with_signals o w v s s r.ready.log e r.ready made same local r.ready.lists refl;
-          own = subst (AreItems (IsArrayItem (place_in with_signals o))) (λ i. unreturned (record (state v.token) { pending = sym same.0 i; dispatched = sym same.1 i }) (sym (ap (λ (x : Writer (Signals ArrayClient) F). x.waiting) made) i)) r.own;
+          own = subst (AreItems (IsArrayItem (place_in with_signals o))) (sym (same_items w v same (ap (λ (x : Writer (Signals ArrayClient) F). x.waiting) made))) r.own;
           given = ap (λ (x : Writer (Signals ArrayClient) F). x.waiting) made ∙ r.given;
           room = subst (λ (k : ℕ). 4096 ≤ k) (sym (ap (λ (x : Writer (Signals ArrayClient) F). x.room) made)) r.room;
           tally = ap (λ (x : Writer (Signals ArrayClient) F). x.tally) made ∙ (r.tally ∙ sym (ap (λ (l : List Edit). length l) log));
@@ -130,21 +123,26 @@ module _ (o : Origin (Signals ArrayClient)) where
   logs_none : {F : Type 0} (w : Writer (Signals ArrayClient) F) (s : ArrayState) (e : Entry) → IsWriterReady o w s → is_array_word f b e.step ≡ false → e.item ≡ [] → (known o).log ((known o).next (knows with_signals o w.token) e) ≡ (known o).log (knows with_signals o w.token)
   logs_none w s e r off none = ap (λ (x : LocalState). replied (logged x)) (ap (λ (x : LocalState). (known o).next x e) r.ready.local ∙ (writer_still with_signals o (idle r.ready.log s.region) e off none ∙ sym r.ready.local))
 
-  pub mark_still : {F : Type 0} (w v : Writer (Signals ArrayClient) F) (s : ArrayState) (n : ℕ) → IsWriterReady o w s → v ≡ record w { token = adding w.token (marks (applied_word_of array o) n ∷ []) } → hand_events o v.token ≡ hand_events o w.token
-  mark_still {F} w v s n r made =
-      let e : Entry = marks (applied_word_of array o) n in
-      steps.mark_event array o (known o) w.token v.token n (ap (λ (x : Writer (Signals ArrayClient) F). x.token) made) (logs_none w s e r (off_word e.step 0 (inl refl)) refl)
+  -- what a signal leaves of a writer between two edits
+  abbrev pub Stays : {F : Type 0} → Writer (Signals ArrayClient) F → Writer (Signals ArrayClient) F → ArrayState → Writing → Type 0
+  Stays w v s events = IsWriterReady o v s × (edits_by o v.token ≡ edits_by o w.token) × (hand_events o v.token ≡ events)
 
-  pub answered_still : {F : Type 0} (w v : Writer (Signals ArrayClient) F) (s : ArrayState) (r n : ℕ) → r < readers o → IsWriterReady o w s → v ≡ record w { token = adding w.token (asks (answered_word_of array o r) r n ∷ []) } → hand_events o v.token ≡ hand_events o w.token ++ Told r n ∷ []
-  answered_still {F} w v s r n low ready made =
-      let e : Entry = asks (answered_word_of array o r) r n in
-      steps.asked_event array o (known o) w.token v.token r n low (ap (λ (x : Writer (Signals ArrayClient) F). x.token) made) (ap is_idle_writer ready.ready.local) (logs_none w s e ready (off_word e.step r (inr refl)) refl)
+  pub mark_still : {F : Type 0} (w v : Writer (Signals ArrayClient) F) (s : ArrayState) (n : ℕ) → IsWriterReady o w s → v ≡ record w { token = adding w.token (marks (applied_word_of array o) n ∷ []) } → SameItemsAndEpoch w.token v.token → Stays w v s (hand_events o w.token)
+  mark_still {F} w v s n r made same =
+      let e : Entry = marks (applied_word_of array o) n in let off = off_word e.step 0 (inl refl) in let b = writer_beside w v s e r made off refl same in
+      (b.0, b.1, steps.mark_event array o (known o) w.token v.token n (ap (λ (x : Writer (Signals ArrayClient) F). x.token) made) (logs_none w s e r off refl))
+
+  pub answered_still : {F : Type 0} (w v : Writer (Signals ArrayClient) F) (s : ArrayState) (r n : ℕ) → r < readers o → IsWriterReady o w s → v ≡ record w { token = adding w.token (asks (answered_word_of array o r) r n ∷ []) } → SameItemsAndEpoch w.token v.token
+      → Stays w v s (hand_events o w.token ++ Told r n ∷ [])
+  answered_still {F} w v s r n low ready made same =
+      let e : Entry = asks (answered_word_of array o r) r n in let off = off_word e.step r (inr refl) in let b = writer_beside w v s e ready made off refl same in
+      (b.0, b.1, steps.asked_event array o (known o) w.token v.token r n low (ap (λ (x : Writer (Signals ArrayClient) F). x.token) made) (ap is_idle_writer ready.ready.local) (logs_none w s e ready off refl))
 
   -- the writer's tally as signals count it
   pub log_counted : {F : Type 0} (w : Writer (Signals ArrayClient) F) (s : ArrayState) → origin w.token ≡ o → IsWriterReady o w s → w.tally ≡ length (writer_log array w.token)
   log_counted w s same r =
       let n = writer_number f b (number w.token) (did w.token) (idle r.ready.log s.region) r.ready.local in
       r.tally ∙ (ap (λ (m : ℕ). length (logged (local_after f b m (did w.token)))) n
-      ∙ (ap (λ (first : ℕ). length (logged (local_after (base_of o) first 0 (did w.token)))) (sym (plus_none (base_of o)))
+      ∙ (ap (λ (first : ℕ). length (logged (local_after (base_of o) first 0 (did w.token)))) (add-zero (base_of o))
       ∙ (ap (λ (q : Origin (Signals ArrayClient)). length (logged (local_after (base_of q) (base_of q) 0 (did w.token)))) (sym same)
       ∙ sym (replied_long empty_lists (logged (local_after (base_of (origin w.token)) (base_of (origin w.token)) 0 (did w.token)))))))

@@ -6,8 +6,9 @@ use Rattle.ck_epoch.specs.State.{state}
 use Rattle.ck_arraylaw.specs.Host.{base_word}
 use Rattle.ck_arraylaw.specs.Reached.{with_signals}
 use Rattle.ck_array.specs.Writes.{opens_of}
-use Rattle.ck_array.proofs.Edits.{edited_by, edit_quiet, same_items}
+use Rattle.ck_array.proofs.Edits.{edited_by, edit_quiet}
 use Rattle.ck_array.proofs.editing.edit.Goals as goal
+use Rattle.ck_array.proofs.EditSteps.{same_items}
 
 pub returns-clause-done : goal.returns-clause-done
 returns-clause-done g c =

@@ -11,4 +11,4 @@ poll_all-requires-clause-kept g c = let r = c.requires.ready in (region_piece c.
 pub returns : goal.returns
 returns g c =
     let o = c.args.domain.now.origin in let w = c.args.writer.now in let s = c.args.state.now in let r = c.requires.ready in let p = c.poll_all in let e = p.ensures in
-    record { polled = has_polled o w p.new.writer s r p.result p.new.arena e.same e.table e.polled e.arena (e.kept (region_piece s.region) (r.ready.kept, r.own)) }
+    record { polled = has_polled o w p.new.writer s p.new.arena r e.same e.arena (e.kept (region_piece s.region) (r.ready.kept, r.own)) p.result e.table e.polled }

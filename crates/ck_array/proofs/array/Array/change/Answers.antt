@@ -3,23 +3,22 @@ use Rattle.ck_run.specs.declared.account.Step.TheVariants.{Load}
 use Rattle.ck_run.specs.Run.{entry}
 use Rattle.ck_run.specs.Tokens.{Table, adding}
 use Rattle.ck_epoch.specs.declared.about.About.{About}
-use Rattle.ck_epoch.specs.State.{Origin, state}
+use Rattle.ck_epoch.specs.State.{state}
 use Rattle.ck_signal.specs.declared.signals.Signals.{Signals}
 use Rattle.ck_arraylaw.specs.declared.client.ArrayClient.{ArrayClient}
 use Rattle.ck_arraylaw.specs.Host.{base_word}
 use Rattle.ck_arraylaw.specs.Reached.{with_signals}
 use Rattle.ck_array.specs.Edited.{IsEdited}
-use Rattle.ck_array.specs.Ends.{ArrayWriter, IsWriterReady}
+use Rattle.ck_array.specs.Ends.{ArrayWriter}
 use Rattle.ck_array.specs.Writes.{opens_of}
-use Rattle.ck_array.proofs.Results.{origin_in, origin_out}
+use Rattle.ck_array.proofs.Results.{ready_in, ready_out}
 use Rattle.ck_array.proofs.array.Array.change.Goals as goal
 
 pub edit-requires-clause-ready : goal.edit-requires-clause-ready
-edit-requires-clause-ready g c = subst (λ (o : Origin (Signals ArrayClient)). IsWriterReady o c.w.inside.writer c.w.inside.state) (origin_in c.self.inside.domain c.args.self.now (record { writer = c.w.inside.writer; state = c.w.inside.state }) c.args.w.now c.self.view_is c.w.view_is c.requires.table) c.w.invariant
+edit-requires-clause-ready g c = ready_in c.w.view_is c.requires.table c.self.view_is c.w.invariant
 
 pub invariant_of-w : goal.invariant_of-w
-invariant_of-w g c = subst (λ (o : Origin (Signals ArrayClient)). IsWriterReady o c.edit.new.writer c.edit.new.state)
-    (origin_out c.self.inside.domain c.args.self.now (record { writer = c.w.inside.writer; state = c.w.inside.state }) c.args.w.now c.edit.new.writer.token c.self.view_is c.w.view_is c.requires.table c.edit.ensures.done.same_table) c.edit.ensures.done.ready
+invariant_of-w g c = let done = c.edit.ensures.done in ready_out c.edit.new.writer c.edit.new.state c.w.view_is c.requires.table c.self.view_is done.same_table done.ready
 
 pub returns : goal.returns
 returns g c =

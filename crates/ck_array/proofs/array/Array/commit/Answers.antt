@@ -1,24 +1,24 @@
 use Rattle.std.proofs.Common.{ap, ◌∙◌, subst, sym}
-use Rattle.ck_epoch.specs.State.{Origin, state}
+use Rattle.ck_epoch.specs.State.{state}
 use Rattle.ck_epoch.specs.Ends.{Writer}
 use Rattle.ck_epoch.specs.Lists.{Answers}
 use Rattle.ck_signal.specs.declared.signals.Signals.{Signals}
 use Rattle.ck_arraylaw.specs.declared.client.ArrayClient.{ArrayClient}
 use Rattle.ck_arraylaw.specs.Client.{is_region, home_of}
-use Rattle.ck_array.specs.Ends.{ArrayWriter, IsWriterReady}
-use Rattle.ck_array.proofs.Results.{origin_in, origin_out, outside, same_of, tally_of, calls_of, table_of, reply_of, log_of, events_of, steps_of, busy_of, pending_of}
+use Rattle.ck_array.specs.Ends.{ArrayWriter}
+use Rattle.ck_array.proofs.Results.{outside, same_of, tally_of, calls_of, table_of, reply_of, log_of, events_of, steps_of, busy_of, pending_of, ready_in, ready_out}
 use Rattle.ck_array.proofs.array.Array.commit.Goals as goal
 
 pub commit-requires-clause-ready : goal.commit-requires-clause-ready
-commit-requires-clause-ready g c = subst (λ (o : Origin (Signals ArrayClient)). IsWriterReady o c.w.inside.writer c.w.inside.state) (origin_in c.self.inside.domain c.args.self.now (record { writer = c.w.inside.writer; state = c.w.inside.state }) c.args.w.now c.self.view_is c.w.view_is c.requires.table) c.w.invariant
+commit-requires-clause-ready g c = ready_in c.w.view_is c.requires.table c.self.view_is c.w.invariant
 
 pub commit-requires-clause-handler : goal.commit-requires-clause-handler
 commit-requires-clause-handler g c = subst (λ (v : Writer (Signals ArrayClient) g.row.F.Denot). Answers (λ item. is_region item) (λ item. home_of item) (λ item. g.F.Fn.pre v.handler (item, tt)) (λ item back. g.F.Fn.post v.handler (item, tt) back)) (sym (ap (λ (v : ArrayWriter g.row.F.Denot). v.writer) c.w.view_is)) c.requires.handler
 
 pub invariant_of-w : goal.invariant_of-w
 invariant_of-w g c =
-    let F = g.row.F.Denot in let a = c.commit in let v = a.new.writer in let d = c.self.inside.domain in let w : ArrayWriter F = record { writer = c.w.inside.writer; state = c.w.inside.state } in
-    subst (λ (o : Origin (Signals ArrayClient)). IsWriterReady o v a.new.state) (origin_out d c.args.self.now w c.args.w.now v.token c.self.view_is c.w.view_is c.requires.table (table_of F d w v a.new.state a.result a.ensures.done)) a.ensures.ready
+    let a = c.commit in let v = a.new.writer in let s = a.new.state in
+    ready_out v s c.w.view_is c.requires.table c.self.view_is (table_of g.row.F.Denot c.self.inside.domain (record { writer = c.w.inside.writer; state = c.w.inside.state }) v s a.result a.ensures.done) a.ensures.ready
 
 pub returns : goal.returns
 returns g c =
