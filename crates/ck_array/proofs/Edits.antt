@@ -1,7 +1,6 @@
 -- An edit by one try; and a commit that is tried once more after a poll.
 use Rattle.std.proofs.Common.{◌≡◌, ℕ, zero, suc, ◌+◌, ◌-◌, ◌^◌, ◌<◌, ◌≤◌, ◌⊎◌, ⊎_elim, inl, inr, Bool, true, false, cond, nat_lt, List, [], ◌∷◌, ◌++◌, length, length-append, refl, sym, ap, ◌∙◌, subst, arith}
 use Rattle.std.specs.Prelude.{Option, Some, None, slice_index}
-use Rattle.std.proofs.lemmas.Nat.{pow_pos}
 use Rattle.std.proofs.lemmas.List.{length-map}
 use Rattle.std.proofs.lemmas.List.Elements.{All-append, All-cons, All-nil}
 use Rattle.std.proofs.lemmas.List.Sorted.{length_permutation}
@@ -9,11 +8,8 @@ use Rattle.ck_run.specs.declared.account.Step.{Step}
 use Rattle.ck_run.specs.declared.account.Step.TheVariants.{Load, Store}
 use Rattle.ck_run.specs.declared.account.Entry.{Entry}
 use Rattle.ck_run.specs.Run.{entry, further, handing}
-use Rattle.ck_run.proofs.Lists.{first_is}
-use Rattle.ck_signal.specs.Words.{answered}
 use Rattle.ck_arraylaw.specs.Calls.{add, drop_one, commit}
 use Rattle.ck_arraylaw.specs.Host.{Host, base_word}
-use Rattle.ck_epoch.specs.Within.{item_from}
 use Rattle.ck_epoch.specs.declared.item.Item.{Item}
 use Rattle.ck_run.specs.Tokens.{table, adding}
 use Rattle.ck_words.specs.Buddies.{ArePiecesApart}
@@ -27,10 +23,10 @@ use Rattle.ck_epoch.specs.declared.answers.Poll.{Poll}
 use Rattle.ck_epoch.specs.declared.answers.Poll.TheVariants.{Clear, Moved, Blocked}
 use Rattle.ck_epoch.specs.declared.item.Retired.{Retired}
 use Rattle.ck_epoch.specs.State.{Origin, Retirement, TokenState, queue, state}
-use Rattle.ck_epoch.specs.Calls.{dispatched_items, pending_after, SameItemsAndEpoch}
+use Rattle.ck_epoch.specs.Calls.{dispatched_items, pending_after}
 use Rattle.ck_epoch.specs.Ends.{Writer}
 use Rattle.ck_signal.specs.declared.signals.Signals.{Signals}
-use Rattle.ck_events.proofs.Steps.{AreQuiet, AreQuiet-append}
+use Rattle.ck_events.proofs.Steps.{AreQuiet, AreQuiet-append, none_named}
 use Rattle.ck_arena.specs.Arena.{unreturned, AreAllInUse, AreItems, IsKept}
 use Rattle.ck_arena.specs.Found.{found_by}
 use Rattle.ck_arena.proofs.Backs.{none_waits}
@@ -40,7 +36,7 @@ use Rattle.ck_arena.proofs.Ranges.{in_use, one_free}
 use Rattle.ck_arraylaw.specs.declared.client.ArrayClient.{ArrayClient}
 use Rattle.ck_arraylaw.specs.declared.client.TheConstants.{ARENA, ARENA_LOG}
 use Rattle.ck_arraylaw.specs.Client.{logged}
-use Rattle.ck_arraylaw.specs.Layout.{log_for, log_from, IsArrayItem, IsRegion}
+use Rattle.ck_arraylaw.specs.Layout.{log_for, log_from, IsArrayItem}
 use Rattle.ck_arraylaw.specs.Reached.{with_signals}
 use Rattle.ck_arraylaw.specs.Regions.{place_in}
 use Rattle.ck_array.specs.declared.state.ArrayState.{ArrayState}
@@ -201,15 +197,7 @@ module _ (F : Type 0) (o : Origin (Signals ArrayClient)) where
 
     pub is_busy : (b : Busy) (w2 : W) (s2 : ArrayState) → ArePiecesApart s1.arena → IsRefused o w1 s1 w2 s2 → found ≡ Some b → IsBusy o w s b w2 s2
     is_busy b w2 s2 apart refused1 is = subst (λ (x : W × ArrayState). IsBusy o w s b x.0 x.1) (λ i. (sym refused1.same.0 i, sym refused1.same.1 i)) record {
-      same = h.same;
-      same_table = h.same_table;
-      lists = h.lists;
-      log = h.log;
-      events = h.events;
-      answer = h.answer;
-      polls = h.polls;
-      found = sym h.found_is ∙ is;
-      given = h.ready.given;
+      polled = subst (λ (x : Option Busy). HasPolled o w s x w1 s1) is h;
       wanting = (is_wanting w w0 s s0 r refused, subst (λ x. IsWanting o x w1.token) region (is_wanting w1 w2 s1 s2 h.ready refused1));
       pending = some_pending (state w1.token).pending refl;
       fewer = fewer;
@@ -219,14 +207,11 @@ module _ (F : Type 0) (o : Origin (Signals ArrayClient)) where
         some_pending [] e = absurd (none_refused w1 w2 s1 s2 h.ready apart e refused1)
         some_pending (k ∷ ks) e = omega arith
 
-named : (name : ℕ) (rest : List ℕ) (r : ℕ) → (name ≡ answered → ⊥) → name ∷ rest ≡ answered ∷ r ∷ [] → ⊥
-named name rest r other e = other (first_is name answered rest (r ∷ []) e)
-
 -- the steps of an edit are none of `answered`
 pub edit_quiet : (e : Edit) (s : Step) → AreQuiet (entry (opens_of e) s ∷ [])
-edit_quiet (Add v) s = ((λ r e. named add (v ∷ []) r (λ z. omega arith) e), tt)
-edit_quiet (Drop v) s = ((λ r e. named drop_one (v ∷ []) r (λ z. omega arith) e), tt)
-edit_quiet Commit s = ((λ r e. named commit [] r (λ z. omega arith) e), tt)
+edit_quiet (Add v) s = (none_named add (v ∷ []) (λ z. omega arith), tt)
+edit_quiet (Drop v) s = (none_named drop_one (v ∷ []) (λ z. omega arith), tt)
+edit_quiet Commit s = (none_named commit [] (λ z. omega arith), tt)
 
 stores_quiet : (word : ℕ) (members : List ℕ) (n : ℕ) → AreQuiet (member_stores word members n)
 stores_quiet word members zero = tt
@@ -234,14 +219,6 @@ stores_quiet word members (suc n) = AreQuiet-append (member_stores word members 
 
 pub commit_quiet : {D : Type 0} (h : Host D) (o : Origin D) (members : List ℕ) (new old : Item) (epoch : ℕ) → AreQuiet (commit_entries h o members new old epoch)
 commit_quiet h o members new old epoch = (
-  (λ r e. named commit [] r (λ z. omega arith) e),
+  none_named commit [] (λ z. omega arith),
   AreQuiet-append (member_stores (base_word h o + new.at + 1) members (length members)) (further (Store (base_word h o) new.at) ∷ handing [] ((place_in h o + old.at) ∷ old.log ∷ []) (Load 0 epoch) ∷ []) (stores_quiet (base_word h o + new.at + 1) members (length members)) ((λ r e. cc), ((λ r e. cc), tt)),
 )
-
--- a step that retires and dispatches nothing
-pub same_items : {F : Type 0} (w v : Writer (Signals ArrayClient) F) → SameItemsAndEpoch w.token v.token → v.waiting ≡ w.waiting → unreturned (state v.token) v.waiting ≡ unreturned (state w.token) w.waiting
-same_items w v same waits i = unreturned (record (state v.token) { pending = same.0 i; dispatched = same.1 i }) (waits i)
-
--- the region that is retired is one of the array's
-pub mine : (o : Origin (Signals ArrayClient)) (region : Item) → IsRegion region → IsArrayItem (place_in with_signals o) (item_from (place_in with_signals o) region)
-mine o region inside = let high = inside.high in let some = pow_pos region.log in (omega arith, omega arith)

@@ -86,15 +86,7 @@ module _ (o : Origin (Signals ArrayClient)) where
     -- Why a commit is refused: one poll was made, which loaded this record active with this epoch, and then, with every answer given back, no
     -- region of the length that it takes was free. Nothing else was done
     pub record IsBusy (b : Busy) (w' : Writer (Signals ArrayClient) F) (s' : ArrayState) : Type 0 where
-      pub same : w' ≡ record w { token = w'.token; calls = w.calls + 1 }
-      pub same_table : table w'.token ≡ table w.token
-      pub lists : s' ≡ record s { arena = s'.arena }
-      pub log : edits_by o w'.token ≡ edits_by o w.token
-      pub events : hand_events o w'.token ≡ hand_events o w.token
-      pub answer : Poll
-      pub polls : Polls (records_of o) (state w.token).epoch w.token answer w'.token
-      pub found : found_by (state w.token).epoch answer ≡ Some b
-      pub given : w'.waiting ≡ []
+      pub polled : HasPolled (Some b) w' s'
       pub wanting : IsWanting s.region w.token × IsWanting s.region w'.token
       pub pending : 0 < length (state w'.token).pending
       pub fewer : length (state w'.token).pending ≤ length (state w.token).pending

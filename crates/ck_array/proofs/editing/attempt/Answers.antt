@@ -10,8 +10,9 @@ use Rattle.ck_arraylaw.specs.Layout.{log_for}
 use Rattle.ck_arraylaw.specs.Reached.{with_signals}
 use Rattle.ck_arraylaw.specs.Regions.{place_in}
 use Rattle.ck_array.specs.Writes.{commit_entries}
-use Rattle.ck_array.proofs.Edits.{edited_by, commit_quiet, lists_are, mine}
+use Rattle.ck_array.proofs.Edits.{edited_by, commit_quiet, lists_are}
 use Rattle.ck_array.proofs.editing.attempt.Goals as goal
+use Rattle.ck_arraylaw.proofs.Members.{region_is_item}
 
 pub returns-in-None : goal.returns-in-None
 returns-in-None g c =
@@ -31,7 +32,7 @@ returns-in-Some g c =
     let counted = c.set_tally.ensures ∙ ap (λ (n : ℕ). record v { calls = v.calls + 1; tally = n + 1 }) (c.tally-edits.ensures.tally ∙ ap (λ x. x.tally) m.steps.1) in
     record {
       made = record {
-        edited = edited_by F o w v c.set_tally.new.self s s' Commit c.in-Some.reply es 1 r (omega arith) m.steps.1 counted m.reply m.log (commit_quiet with_signals o s.lists.pending s'.region s.region m.steps.0) (inr (k, mine o s.region r.ready.inside, m.items.1)) c.commit.ensures.ready;
+        edited = edited_by F o w v c.set_tally.new.self s s' Commit c.in-Some.reply es 1 r (omega arith) m.steps.1 counted m.reply m.log (commit_quiet with_signals o s.lists.pending s'.region s.region m.steps.0) (inr (k, region_is_item (place_in with_signals o) s.region r.ready.inside, m.items.1)) c.commit.ensures.ready;
         fewer_calls = (let a = ap (λ x. x.calls) c.set_tally.ensures in let b = ap (λ x. x.calls) m.steps.1 in omega arith);
         epoch = m.steps.0;
         made = ap (λ x. x.token) c.set_tally.ensures ∙ (ap (λ x. x.token) m.steps.1 ∙ ap (λ (xs : List ℕ). adding w.token (commit_entries with_signals o xs s'.region s.region m.steps.0)) (ap (λ (l : ListState). l.pending) (lists_are F o w s r.ready)));
