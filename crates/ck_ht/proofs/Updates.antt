@@ -235,15 +235,7 @@ module _ (F : Type 0) (o : Origin (Signals HtClient)) (u : Update ℕ) where
 
     pub is_busy : (b : Busy) (w2 : W) (s2 : HtState) → ArePiecesApart s1.arena → IsRefused o u w1 s1 w2 s2 → found ≡ Some b → ((state w1.token).pending ≡ [] → ⊥) → IsBusy o u w s b w2 s2
     is_busy b w2 s2 apart1 refused1 is some = subst (λ (x : W × HtState). IsBusy o u w s b x.0 x.1) (λ i. (sym refused1.same.0 i, sym refused1.same.1 i)) record {
-      same = h.same;
-      same_table = h.same_table;
-      lists = h.lists;
-      log = h.log;
-      events = h.events;
-      answer = h.answer;
-      polls = h.polls;
-      found = sym h.found_is ∙ is;
-      given = h.ready.given;
+      polled = subst (λ (x : Option Busy). HasPolled o w s x w1 s1) is h;
       wanting = λ p at. (is_wanting w s r w0 s0 apart refused p at, is_wanting w1 s1 h.ready w2 s2 apart1 refused1 p (h.local ∙ at));
       pending = some_pending some;
       fewer = fewer;

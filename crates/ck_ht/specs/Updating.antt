@@ -72,6 +72,20 @@ module _ (l : Layout) (p : WriterState) where
   AreUpdating (Del key) es = (ss : List Step) × RemoveSteps l p (plan_now l p key) ss × (es ≡ opened (remove ∷ key ∷ []) ss)
   AreUpdating Tidy es = (root : ℕ) × AreTidying l (tidy ∷ []) (tombstones_now l p) p.root root es
 
+-- One poll was made, and each answer that waits given back
+pub record HasPolled {F : Type 0} (o : Origin (Signals HtClient)) (w : Writer (Signals HtClient) F) (s : HtState) (found : Option Busy) (w' : Writer (Signals HtClient) F) (s' : HtState) : Type 0 where
+  pub same : w' ≡ record w { token = w'.token; calls = w.calls + 1 }
+  pub same_table : table w'.token ≡ table w.token
+  pub lists : s' ≡ record s { arena = s'.arena }
+  pub local : (knows with_signals o w'.token).local ≡ (knows with_signals o w.token).local
+  pub log : (knows with_signals o w'.token).log ≡ (knows with_signals o w.token).log
+  pub events : hand_events o w'.token ≡ hand_events o w.token
+  pub answer : Poll
+  pub polls : Polls (records_of o) (state w.token).epoch w.token answer w'.token
+  pub found_is : found ≡ found_by (state w.token).epoch answer
+  pub pending : queue (state w'.token).pending ≡ pending_after (state w.token).epoch answer (queue (state w.token).pending)
+  pub ready : IsWriterReady o w' s'
+
 module _ (o : Origin (Signals HtClient)) (u : Update ℕ) where
   -- a rebuild is due, and the arena has no region for it
   abbrev pub IsWanting : WriterState → Token (Signals HtClient) → Type 0
@@ -100,15 +114,7 @@ module _ (o : Origin (Signals HtClient)) (u : Update ℕ) where
     -- Why the update is refused: one poll was made, which loaded this record active with this epoch, and then, with every answer given back, a
     -- rebuild was due and the arena had no region for it. Nothing else was done
     pub record IsBusy (b : Busy) (w' : Writer (Signals HtClient) F) (s' : HtState) : Type 0 where
-      pub same : w' ≡ record w { token = w'.token; calls = w.calls + 1 }
-      pub same_table : table w'.token ≡ table w.token
-      pub lists : s' ≡ record s { arena = s'.arena }
-      pub log : (knows with_signals o w'.token).log ≡ (knows with_signals o w.token).log
-      pub events : hand_events o w'.token ≡ hand_events o w.token
-      pub answer : Poll
-      pub polls : Polls (records_of o) (state w.token).epoch w.token answer w'.token
-      pub found : found_by (state w.token).epoch answer ≡ Some b
-      pub given : w'.waiting ≡ []
+      pub polled : HasPolled o w s (Some b) w' s'
       pub wanting : (p : WriterState) → WriterIs with_signals o w.token p → IsWanting p w.token × IsWanting p w'.token
       pub pending : 0 < length (state w'.token).pending
       pub fewer : length (state w'.token).pending ≤ length (state w.token).pending
@@ -129,17 +135,3 @@ module _ (o : Origin (Signals HtClient)) (u : Update ℕ) where
     pub record IsRefused (w' : Writer (Signals HtClient) F) (s' : HtState) : Type 0 where
       pub same : (w' ≡ w) × (s' ≡ s)
       pub due : (p : WriterState) → WriterIs with_signals o w.token p → IsDue (lies with_signals o) p u × HasNoneFree s.arena (due_log (lies with_signals o) p u)
-
--- One poll was made, and each answer that waits given back
-pub record HasPolled {F : Type 0} (o : Origin (Signals HtClient)) (w : Writer (Signals HtClient) F) (s : HtState) (found : Option Busy) (w' : Writer (Signals HtClient) F) (s' : HtState) : Type 0 where
-  pub same : w' ≡ record w { token = w'.token; calls = w.calls + 1 }
-  pub same_table : table w'.token ≡ table w.token
-  pub lists : s' ≡ record s { arena = s'.arena }
-  pub local : (knows with_signals o w'.token).local ≡ (knows with_signals o w.token).local
-  pub log : (knows with_signals o w'.token).log ≡ (knows with_signals o w.token).log
-  pub events : hand_events o w'.token ≡ hand_events o w.token
-  pub answer : Poll
-  pub polls : Polls (records_of o) (state w.token).epoch w.token answer w'.token
-  pub found_is : found ≡ found_by (state w.token).epoch answer
-  pub pending : queue (state w'.token).pending ≡ pending_after (state w.token).epoch answer (queue (state w.token).pending)
-  pub ready : IsWriterReady o w' s'
