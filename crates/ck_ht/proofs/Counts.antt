@@ -1,5 +1,5 @@
 -- What the signals of a table count are its own log and answers, in every true run.
-use Rattle.std.proofs.Common.{◌≡◌, ℕ, suc, ◌+◌, ◌≤◌, true, [], ◌++◌, length, length-append, sym, ap, ◌∙◌, arith}
+use Rattle.std.proofs.Common.{◌≡◌, ℕ, suc, ◌≤◌, true, [], ◌++◌, length, length-append, sym, ap, ◌∙◌, arith, add-zero}
 use Rattle.std.proofs.lemmas.List.{length-map}
 use Rattle.ck_run.specs.Run.{Run, account}
 use Rattle.ck_epoch.specs.State.{Origin, base_of}
@@ -17,9 +17,6 @@ use Rattle.ck_ht.specs.Events.{is_idle_writer, replied, known}
 use Rattle.ck_ht.specs.Settled.{SettledLaw}
 use Rattle.ck_ht.proofs.EventSteps.{idle_is}
 
-plus_none : (a : ℕ) → a ≡ a + 0
-plus_none a = omega arith
-
 module _ (o : Origin (Signals HtClient)) where
   -- the state by which a token's answers are told
   pub local_is : (run : Run) (n : ℕ) → (known_in table o (known o) run n).local ≡ local_in with_signals o run n
@@ -27,7 +24,7 @@ module _ (o : Origin (Signals HtClient)) where
 
   pub few_given : (run : Run) (r : ℕ) → answers_during table o run r ≤ length (given_in table o (known o) run r)
   few_given run r =
-      let same : answers_during table o run r ≡ length (given_in table o (known o) run r) = ap (λ (first : ℕ). length (answers_after (layout_of first (inside o)) o.words (suc r) (account (suc r) run)).looks) (plus_none (base_of o)) in
+      let same : answers_during table o run r ≡ length (given_in table o (known o) run r) = ap (λ (first : ℕ). length (answers_after (layout_of first (inside o)) o.words (suc r) (account (suc r) run)).looks) (sym (add-zero (base_of o))) in
       omega arith
 
   pub log_is_whole : SettledLaw o → (past rest : Run) → IsRunOf table o (past ++ rest) → (known o).is_idle (known_in table o (known o) past 0) ≡ true → linearized with_signals o past ≤ length ((known o).log (known_in table o (known o) past 0))
@@ -38,7 +35,7 @@ module _ (o : Origin (Signals HtClient)) where
 
   pub has_logged : TableLaw with_signals o → (past rest : Run) → IsRunOf table o (past ++ rest) → length (log_during table o past) ≤ linearized with_signals o past
   has_logged law past rest t =
-      let same : length (log_during table o past) ≡ length (log_in with_signals o past) = ap (λ (first : ℕ). length (answers_after (layout_of first (inside o)) o.words 0 (account 0 past)).log) (plus_none (base_of o)) in
+      let same : length (log_during table o past) ≡ length (log_in with_signals o past) = ap (λ (first : ℕ). length (answers_after (layout_of first (inside o)) o.words 0 (account 0 past)).log) (sym (add-zero (base_of o))) in
       let all = law.log past rest t in
       let longer = ap length all.1 ∙ length-append (log_in with_signals o past) all.0 in
       omega arith

@@ -30,10 +30,10 @@ pub not_less : (n : ℕ) → nat_lt n n ≡ false
 not_less n = grind (arith, nat_tests)
 
 module _ (l : Layout) where
-  -- none of these steps is on a word of the table's
+  -- none of these steps is on a word of the table's, and none hands an item over
   abbrev pub AreElsewhere : List Entry → Type 0
   AreElsewhere [] = Unit {0}
-  AreElsewhere (e ∷ es) = (is_table_word l e.step ≡ false) × AreElsewhere es
+  AreElsewhere (e ∷ es) = (is_table_word l e.step ≡ false) × (e.item ≡ []) × AreElsewhere es
 
   pub outside_still : (y : ReaderState) (e : Entry) → y.look_state ≡ no_look → is_table_word l e.step ≡ false → table_next l (reader y) e ≡ reader y
   outside_still y e is_out off = ap (λ (b : Bool). cond b (after_own l (action l) key_of (reader y) e) (after_other l (reader y) e)) off ∙ by (is_section l e.step)
@@ -51,7 +51,7 @@ module _ (l : Layout) where
   stays : (a : Answers) (y : ReaderState) (es : List Entry) → a.local ≡ reader y → y.look_state ≡ no_look → AreElsewhere es → ((state_after (answers_next l) a es).local ≡ reader y) × ((state_after (answers_next l) a es).looks ≡ a.looks)
   stays a y [] local is_out off = (local, refl)
   stays a y (e ∷ es) local is_out off =
-      let h = stays (answers_next l a e) y es (ap (λ (x : LocalState). table_next l x e) local ∙ outside_still y e is_out off.0) is_out off.1 in (
+      let h = stays (answers_next l a e) y es (ap (λ (x : LocalState). table_next l x e) local ∙ outside_still y e is_out off.0) is_out off.2 in (
         h.0,
         h.1 ∙ (ap (λ (xs : List (ℕ × Option ℕ)). a.looks ++ xs) (looks_still a.local e off.0) ∙ append-nil a.looks),
       )
@@ -90,8 +90,10 @@ module _ {D : Type 0} (host : Host D) (o : Origin D) where
         (λ i. record { looks = looks i; retries = (ap retries_of (ap (λ (a : Answers). a.local) after ∙ (h.0 ∙ sym r.local))) i }),
       )
 
+  abbrev pub IsBelow : Entry → Type 0
+  IsBelow e = (word_of e.step < base_of o) × (e.item ≡ [])
+
   -- steps on the words of the epochs
-  pub below_all : (es : List Entry) → All (λ (e : Entry). (word_of e.step < base_of o) × (e.item ≡ [])) es → AreElsewhere l es
+  pub below_all : (es : List Entry) → All IsBelow es → AreElsewhere l es
   below_all [] h = tt
-  below_all (e ∷ es) h = let low = (All-head (λ (e : Entry). (word_of e.step < base_of o) × (e.item ≡ [])) e es h).0 in
-      (below l.base (l.base + l.size) (word_of e.step) (omega arith), below_all es (All-tail (λ (e : Entry). (word_of e.step < base_of o) × (e.item ≡ [])) e es h))
+  below_all (e ∷ es) h = let low = All-head IsBelow e es h in (below l.base (l.base + l.size) (word_of e.step) (let m = low.0 in omega arith), low.1, below_all es (All-tail IsBelow e es h))

@@ -2,9 +2,8 @@
 use Rattle.std.proofs.Common.{◌≡◌, ℕ, ◌+◌, ◌≤◌, List, [], append-nil, refl, sym, ap, ◌∙◌, subst, arith}
 use Rattle.std.specs.Prelude.{Option}
 use Rattle.ck_run.specs.declared.account.Entry.{Entry}
-use Rattle.ck_run.specs.Tokens.{Table, origin, table}
+use Rattle.ck_run.specs.Tokens.{table}
 use Rattle.ck_words.specs.Buddies.{Arena, with_pieces_out}
-use Rattle.ck_epoch.specs.declared.about.About.{About}
 use Rattle.ck_epoch.specs.State.{Origin, barrier, records_of, state}
 use Rattle.ck_epoch.specs.Ends.{Writer}
 use Rattle.ck_epoch.specs.Rounds.{Rounds}
@@ -25,11 +24,12 @@ use Rattle.ck_htwrite.specs.Entries.{HasKeys}
 use Rattle.ck_htwrite.specs.State.{Ready}
 use Rattle.ck_htwrite.specs.Writes.{counters_in}
 use Rattle.ck_htwrite.proofs.Openings.{still_of_table}
-use Rattle.ck_ht.specs.Ends.{HtWriter, IsWriterReady}
+use Rattle.ck_ht.specs.Ends.{IsWriterReady}
 use Rattle.ck_ht.specs.Events.{hand_events}
 use Rattle.ck_ht.specs.Updating.{HasPolled}
 use Rattle.ck_ht.proofs.EventSteps.{updates_are_events}
-use Rattle.ck_ht.proofs.Staying.{outside_below, local_outside, ready_outside}
+use Rattle.ck_ht.proofs.Staying.{ready_outside}
+use Rattle.ck_ht.proofs.Elsewhere.{below_all}
 
 module _ {F : Type 0} (o : Origin (Signals HtClient)) (w v : Writer (Signals HtClient) F) (s : HtState) (a : Arena) (r : IsWriterReady o w s) (same : v ≡ record w { token = v.token; calls = w.calls + 1 }) (is : a ≡ with_pieces_out s.arena a.out)
     (kept : KeepsAll (IsTableItem (counters_in with_signals o) 0) 0 (region_piece s.root) (unreturned (state v.token) v.waiting) a) where
@@ -38,8 +38,8 @@ module _ {F : Type 0} (o : Origin (Signals HtClient)) (w v : Writer (Signals HtC
 
   -- after steps on the words of the epochs
   module _ (es : (es : List Entry) × AreOfEpochs (records_of o) w.token v.token es) where
-    still : Ready with_signals o v (record s { arena = a }) × ((knows with_signals o v.token).log ≡ (knows with_signals o w.token).log)
-    still = ready_outside with_signals o w v s a es.0 r.ready es.1.0 (outside_below with_signals o es.0 es.1.1) (ap (λ (x : Writer (Signals HtClient) F). x.tally) same) (let c = ap (λ (x : Writer (Signals HtClient) F). x.calls) same in omega arith)
+    still : Ready with_signals o v (record s { arena = a }) × ((knows with_signals o v.token).log ≡ (knows with_signals o w.token).log) × ((knows with_signals o v.token).local ≡ (knows with_signals o w.token).local)
+    still = ready_outside with_signals o w v s a es.0 r.ready es.1.0 (below_all with_signals o es.0 es.1.1) (ap (λ (x : Writer (Signals HtClient) F). x.tally) same) (let c = ap (λ (x : Writer (Signals HtClient) F). x.calls) same in omega arith)
         (record { of_table = still_of_table n s.arena a a.out is r.ready.arena.of_table; pieces = kept.0 })
 
     events : hand_events o v.token ≡ hand_events o w.token
@@ -60,7 +60,7 @@ module _ {F : Type 0} (o : Origin (Signals HtClient)) (w v : Writer (Signals HtC
     same = same;
     same_table = same_table;
     lists = refl;
-    local = local_outside with_signals o w v s es.0 r.ready.lists es.1.0 (outside_below with_signals o es.0 es.1.1);
+    local = (still es).2;
     log = (still es).1;
     events = events es;
     answer = p.0;
@@ -72,7 +72,3 @@ module _ {F : Type 0} (o : Origin (Signals HtClient)) (w v : Writer (Signals HtC
 
   pub has_waited : Rounds (records_of o) barrier (state w.token).epoch w.token v.token → ((knows with_signals o v.token).log ≡ (knows with_signals o w.token).log) × (hand_events o v.token ≡ hand_events o w.token) × IsWriterReady o v (record s { arena = a })
   has_waited rounds = let es = barrier_steps (records_of o) (state w.token).epoch w.token v.token rounds in ((still es).1, events es, ready_given es)
-
--- a writer is ready by the origin of the domain that it is used with
-pub ready_here : {F : Type 0} (d here : Table (About (Signals HtClient))) (w now : HtWriter F) → d ≡ here → w ≡ now → table now.writer.token ≡ here → IsWriterReady (origin w.writer.token) w.writer w.state → IsWriterReady d.origin w.writer w.state
-ready_here {F} d here w now self_is view_is at = subst (λ (o : Origin (Signals HtClient)). IsWriterReady o w.writer w.state) (ap (λ (v : HtWriter F). origin v.writer.token) view_is ∙ (ap (λ (x : Table (About (Signals HtClient))). x.origin) (at ∙ sym self_is)))

@@ -1,5 +1,5 @@
 -- The tokens of a table that has a domain of its own, with signals.
-use Rattle.std.specs.Prelude.{◌≡◌, ◌+◌, ◌*◌, ◌^◌, ◌≤◌, [], length}
+use Rattle.std.specs.Prelude.{◌≡◌, ◌+◌, ◌*◌, ◌^◌, ◌≤◌, []}
 use Rattle.ck_epoch.specs.State.{Origin, state}
 use Rattle.ck_epoch.specs.Ends.{Writer, Pass}
 use Rattle.ck_signal.specs.declared.signals.Signals.{Signals}
@@ -36,12 +36,6 @@ pub record IsWriterReady {F : Type 0} (o : Origin (Signals HtClient)) (w : Write
 -- the writer is between two updates
 abbrev pub IsIdle : LocalState → Type 0
 IsIdle local = (p : WriterState) × (local ≡ writer p) × (p.stage ≡ idle)
-
--- The writer is between two updates, and its tally is the length of its log
-pub record IsBetweenUpdates {F : Type 0} (o : Origin (Signals HtClient)) (w : Writer (Signals HtClient) F) : Type 0 where
-  pub is_idle : IsIdle (knows with_signals o w.token).local
-  pub tally : w.tally ≡ length (knows with_signals o w.token).log
-  pub few : w.tally ≤ w.calls
 
 -- The pass is between two looks, and its tally is the number of its answered looks
 abbrev pub IsPassReady : Origin (Signals HtClient) → Pass (Signals HtClient) → Type 0

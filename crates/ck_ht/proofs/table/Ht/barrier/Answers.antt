@@ -3,18 +3,19 @@ use Rattle.ck_run.specs.Tokens.{Table, table}
 use Rattle.ck_epoch.specs.declared.about.About.{About}
 use Rattle.ck_epoch.specs.Lists.{Answers}
 use Rattle.ck_epoch.specs.Rounds.{Rounds}
-use Rattle.ck_epoch.specs.State.{Origin, barrier, records_of, state}
+use Rattle.ck_epoch.specs.State.{barrier, records_of, state}
 use Rattle.ck_signal.specs.declared.signals.Signals.{Signals}
 use Rattle.ck_htlaw.specs.declared.client.HtClient.{HtClient}
 use Rattle.ck_htlaw.specs.Client.{home_of}
 use Rattle.ck_htlaw.specs.Known.{knows}
 use Rattle.ck_htlaw.specs.Reached.{with_signals}
 use Rattle.ck_htwrite.specs.Arena.{region_piece}
-use Rattle.ck_ht.specs.Ends.{HtWriter, IsWriterReady}
+use Rattle.ck_ht.specs.Ends.{HtWriter}
 use Rattle.ck_ht.specs.Events.{hand_events}
-use Rattle.ck_ht.proofs.Polled.{has_waited, ready_here}
+use Rattle.ck_ht.proofs.Polled.{has_waited}
 use Rattle.ck_ht.proofs.Regions.{goes_home}
 use Rattle.ck_ht.proofs.table.Ht.barrier.Goals as goal
+use Rattle.ck_ht.proofs.Results.{ready_in, ready_out}
 
 pub give_all-requires-clause-handler : goal.give_all-requires-clause-handler
 give_all-requires-clause-handler g c = λ i retires.
@@ -25,22 +26,20 @@ give_all-requires-clause-home g c = goes_home
 
 pub give_all-requires-clause-kept : goal.give_all-requires-clause-kept
 give_all-requires-clause-kept g c =
-    let x = c.w.inside in let r = ready_here c.self.inside.domain c.args.self.now (record { writer = x.writer; state = x.state }) c.args.w.now c.self.view_is c.w.view_is c.requires.table c.w.invariant in
-    (region_piece x.state.root, (r.ready.arena.pieces, r.own))
+    let r = ready_in c.w.view_is c.requires.table c.self.view_is c.w.invariant in (region_piece c.w.inside.state.root, (r.ready.arena.pieces, r.own))
 
 pub invariant_of-w : goal.invariant_of-w
 invariant_of-w g c =
-    let d = c.self.inside.domain in let x = c.w.inside in let v = c.give_all.new.writer in let a = c.give_all.new.arena in let e = c.give_all.ensures in
-    let r = ready_here d c.args.self.now (record { writer = x.writer; state = x.state }) c.args.w.now c.self.view_is c.w.view_is c.requires.table c.w.invariant in
-    subst (λ (o : Origin (Signals HtClient)). IsWriterReady o v (record x.state { arena = a }))
-    (ap (λ (t : Table (About (Signals HtClient))). t.origin) (c.self.view_is ∙ (sym c.requires.table ∙ (sym (ap (λ (y : HtWriter g.row.F.Denot). table y.writer.token) c.w.view_is) ∙ sym e.table))))
-    (has_waited d.origin x.writer v x.state a r e.same e.arena (e.kept (region_piece x.state.root) (r.ready.arena.pieces, r.own)) e.steps).2
+    let x = c.w.inside in let v = c.give_all.new.writer in let a = c.give_all.new.arena in let e = c.give_all.ensures in
+    let r = ready_in c.w.view_is c.requires.table c.self.view_is c.w.invariant in
+    ready_out v (record x.state { arena = a }) c.w.view_is c.requires.table c.self.view_is e.table
+    (has_waited c.self.inside.domain.origin x.writer v x.state a r e.same e.arena (e.kept (region_piece x.state.root) (r.ready.arena.pieces, r.own)) e.steps).2
 
 pub returns : goal.returns
 returns g c =
-    let F = g.row.F.Denot in let d = c.self.inside.domain in let x = c.w.inside in let v = c.give_all.new.writer in let e = c.give_all.ensures in
-    let r = ready_here d c.args.self.now (record { writer = x.writer; state = x.state }) c.args.w.now c.self.view_is c.w.view_is c.requires.table c.w.invariant in
-    let done = has_waited d.origin x.writer v x.state c.give_all.new.arena r e.same e.arena (e.kept (region_piece x.state.root) (r.ready.arena.pieces, r.own)) e.steps in
+    let F = g.row.F.Denot in let x = c.w.inside in let v = c.give_all.new.writer in let e = c.give_all.ensures in
+    let r = ready_in c.w.view_is c.requires.table c.self.view_is c.w.invariant in
+    let done = has_waited c.self.inside.domain.origin x.writer v x.state c.give_all.new.arena r e.same e.arena (e.kept (region_piece x.state.root) (r.ready.arena.pieces, r.own)) e.steps in
     let same = ap (λ (y : HtWriter F). y.writer) c.w.view_is in
     record {
       same = e.same ∙ (λ i. record (same i) { token = v.token; calls = (same i).calls + 1 });
