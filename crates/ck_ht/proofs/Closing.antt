@@ -44,10 +44,13 @@ use Rattle.ck_ht.specs.Settled.{SettledLaw}
 use Rattle.ck_ht.proofs.Counts.{local_is, few_given, log_is_whole, has_logged}
 use Rattle.ck_ht.proofs.EventSteps.{no_look_is, log_grows, adds_one, is_log_of}
 
--- a writer's account is that of the first token
-pub is_first : (l : Layout) (words : List ℕ) (n : ℕ) (es : List Entry) (p : WriterState) → local_after l words n es ≡ writer p → n ≡ 0
+is_first : (l : Layout) (words : List ℕ) (n : ℕ) (es : List Entry) (p : WriterState) → local_after l words n es ≡ writer p → n ≡ 0
 is_first l words zero es p is = refl
 is_first l words (suc r) es p is = absurd (let w = stays_reader l first_reader es in let z : writer p ≡ reader w.0 = sym is ∙ w.1 in cc)
+
+-- a writer's token is the first one
+pub writer_number : (o : Origin (Signals HtClient)) (t : Token (Signals HtClient)) (p : WriterState) → (knows with_signals o t).local ≡ writer p → number t ≡ 0
+writer_number o t p local = let l = lies with_signals o in is_first l o.words (number t) (did t) p (sym (local_after_all l (answers_after l o.words (number t) []) (did t)) ∙ local)
 
 -- the words that are left stand as those of the run did
 words_stand : (o : Origin (Signals HtClient)) (run : Run) (words : List ℕ) (log : List (LogEntry ℕ)) → WordsStand with_signals o run → IsIdle (local_in with_signals o run 0)
@@ -78,7 +81,7 @@ module _ (told : TrueSignals table) (laws : (o : Origin (Signals HtClient)) → 
   k = lies with_signals o
 
   first : number w ≡ 0
-  first = is_first k o.words (number w) (did w) free.0 (sym (local_after_all k (answers_after k o.words (number w) []) (did w)) ∙ free.1)
+  first = writer_number o w free.0 free.1
 
   mine : account 0 c.run ≡ did w
   mine = ap (λ (n : ℕ). account n c.run) (sym first) ∙ c.writer

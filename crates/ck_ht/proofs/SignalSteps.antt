@@ -4,7 +4,7 @@ use Rattle.std.specs.Prelude.{Option, Result}
 use Rattle.ck_run.specs.declared.account.Step.{Step}
 use Rattle.ck_run.specs.declared.account.Entry.{Entry}
 use Rattle.ck_run.specs.Range.{word_of}
-use Rattle.ck_run.specs.Tokens.{adding, did, number, origin}
+use Rattle.ck_run.specs.Tokens.{adding, did, origin}
 use Rattle.ck_epoch.specs.State.{Origin, base_of}
 use Rattle.ck_epoch.specs.Calls.{SameItemsAndEpoch, StepsBelow}
 use Rattle.ck_epoch.specs.Ends.{Pass, Writer}
@@ -25,7 +25,6 @@ use Rattle.ck_htlaw.specs.Law.{look_state_of}
 use Rattle.ck_htlaw.specs.Linearized.{map_after}
 use Rattle.ck_htlaw.specs.Reached.{with_signals}
 use Rattle.ck_htlaw.specs.Table.{Layout, is_table_word}
-use Rattle.ck_htlaw.proofs.Tokens.{local_after_all}
 use Rattle.ck_htread.specs.Reading.{LookTotals, totals_of}
 use Rattle.ck_htread.proofs.Telling.{record_of}
 use Rattle.ck_htwrite.specs.declared.state.HtState.{HtState}
@@ -35,7 +34,7 @@ use Rattle.ck_htwrite.specs.State.{Ready}
 use Rattle.ck_htwrite.specs.Writes.{counters_in}
 use Rattle.ck_ht.specs.Ends.{IsPassReady, IsWriterReady}
 use Rattle.ck_ht.specs.Events.{is_no_look, is_idle_stage, is_idle_writer, replied, known, pass_events, hand_events, Writing}
-use Rattle.ck_ht.proofs.Closing.{is_first}
+use Rattle.ck_ht.proofs.Closing.{writer_number}
 use Rattle.ck_ht.proofs.Elsewhere.{beyond, looks_still, ready_still, below_all, writer_still}
 use Rattle.ck_ht.proofs.EventSteps.{answers_grow}
 use Rattle.ck_ht.proofs.Staying.{items_beside, ready_beside}
@@ -92,8 +91,7 @@ module _ (o : Origin (Signals HtClient)) where
   -- and the writer's
   pub log_counted : {F : Type 0} (w : Writer (Signals HtClient) F) (s : HtState) → origin w.token ≡ o → Ready with_signals o w s → w.tally ≡ length (writer_log table w.token)
   log_counted w s same r =
-      let first = is_first k o.words (number w.token) (did w.token) r.lists.is_writer (sym (local_after_all k (answers_after k o.words (number w.token) []) (did w.token)) ∙ r.lists.is) in
-      r.tally ∙ (ap (λ (m : ℕ). length (answers_after k o.words m (did w.token)).log) first
+      r.tally ∙ (ap (λ (m : ℕ). length (answers_after k o.words m (did w.token)).log) (writer_number o w.token r.lists.is_writer r.lists.is)
       ∙ (ap (λ (first : ℕ). length (answers_after (layout_of first (inside o)) o.words 0 (did w.token)).log) (add-zero (base_of o))
       ∙ ap (λ (q : Origin (Signals HtClient)). length (answers_after (layout_of (base_of q) (inside q)) q.words 0 (did w.token)).log) (sym same)))
 
