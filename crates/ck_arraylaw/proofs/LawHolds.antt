@@ -74,17 +74,11 @@ one_unanswered (replaced old) log = (Commit ∷ [], refl, omega arith)
 module _ {D : Type 0} (a : ArrayIn D) where
   open a use {host, pieces, origin}
 
-  abbrev b : ℕ
-  b = base a
-
-  abbrev f : ℕ
-  f = floor a
-
   stands : (past more : Run) → IsTrue a (past ++ more) → WordsStand host origin past
   stands past more t = let h = held a past more t in let ws = words a past in record {
-    root = subst (λ (x : LocalState). get_or ws b 0 ≡ (region_of x).at) (sym h.at_writer) h.invariant.root;
+    root = subst (λ (x : LocalState). get_or ws (base a) 0 ≡ (region_of x).at) (sym h.at_writer) h.invariant.root;
     inside = subst (λ (x : LocalState). IsRegion (region_of x)) (sym h.at_writer) h.invariant.inside;
-    list = subst (λ (x : LocalState). HoldsList b ws (region_of x) (lists_after_from empty_lists (edits_by x)).committed) (sym h.at_writer) h.invariant.list;
+    list = subst (λ (x : LocalState). HoldsList (base a) ws (region_of x) (lists_after_from empty_lists (edits_by x)).committed) (sym h.at_writer) h.invariant.list;
   }
 
   has_all_but_one : (past more : Run) → IsTrue a (past ++ more) → (es : List Edit) × (edits_in host origin past ≡ log_in host origin past ++ es) × (length es ≤ 1)
@@ -92,8 +86,8 @@ module _ {D : Type 0} (a : ArrayIn D) where
       subst (λ (x : LocalState). (es : List Edit) × (edits_by x ≡ logged x ++ es) × (length es ≤ 1)) (sym h.at_writer) (one_unanswered h.writer_state.stage h.writer_state.log)
 
   goes_on : (past more : Run) → (es : List Edit) × (edits_in host origin (past ++ more) ≡ edits_in host origin past ++ es)
-  goes_on past more = let g = edits_after f b (local_in host origin past 0) (account 0 more) in
-      (g.0, ap (λ (es : List Entry). edits_by (state_after (array_next f b) (array_start 0) es)) (account-append 0 past more) ∙ (ap edits_by (state-append (array_next f b) (array_start 0) (account 0 past) (account 0 more)) ∙ g.1))
+  goes_on past more = let g = edits_after (floor a) (base a) (local_in host origin past 0) (account 0 more) in
+      (g.0, ap (λ (es : List Entry). edits_by (state_after (array_next (floor a) (base a)) (array_start 0) es)) (account-append 0 past more) ∙ (ap edits_by (state-append (array_next (floor a) (base a)) (array_start 0) (account 0 past) (account 0 more)) ∙ g.1))
 
   -- within an `all`
   module _ (past between rest : Run) (r : ℕ) (e : Entry) (t : IsTrue a (until past r e between ++ rest)) (reading : IsReading host origin past r e between) where
@@ -119,12 +113,12 @@ module _ {D : Type 0} (a : ArrayIn D) where
       answers_list a past hold.writer_state.region (lists_of hold.writer_state).committed (begins_at a past hold) (until past r e between) r e' rest t k.0 (reading.goes between [] (sym (append-nil between))) k.1 members answers
       ∙ ap (λ (x : LocalState). (lists_after_from empty_lists (edits_by x)).committed) (sym hold.at_writer)
 
-  reclaimed : (past rest : Run) (e : Entry) (p : WriterState) (region : Item) → IsTrue a (past ++ (0, e) ∷ rest) → local_in host origin past 0 ≡ writer p → is_array_word f b e.step ≡ true → Unpublished b p e p.stage region → (r o : ℕ) → r < records_of origin → IsOpen past r o
+  reclaimed : (past rest : Run) (e : Entry) (p : WriterState) (region : Item) → IsTrue a (past ++ (0, e) ∷ rest) → local_in host origin past 0 ≡ writer p → is_array_word (floor a) (base a) e.step ≡ true → Unpublished (base a) p e p.stage region → (r o : ℕ) → r < records_of origin → IsOpen past r o
       → IsApartFromRetired (regions host) origin past o (item_from (place_in host origin) region)
   reclaimed past rest e p region t at_p own u r o low section =
       let h = held a past ((0, e) ∷ rest) t in
       let same : p ≡ h.writer_state = let z : writer p ≡ writer h.writer_state = sym at_p ∙ h.at_writer in cc in
-      pieces.retired origin past ((0, e) ∷ rest) (item_from (place_in host origin) region) t (is_reusable a past e rest t h own region (subst (λ (q : WriterState). Unpublished b q e q.stage region) same u)) r o low section
+      pieces.retired origin past ((0, e) ∷ rest) (item_from (place_in host origin) region) t (is_reusable a past e rest t h own region (subst (λ (q : WriterState). Unpublished (base a) q e q.stage region) same u)) r o low section
 
   pub array_law : ArrayLaw host origin
   array_law = record {
