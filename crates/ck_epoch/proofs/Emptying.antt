@@ -1,15 +1,15 @@
 -- The four lists of the writer's: an item is put on one of them, and one of them is emptied.
-use Rattle.std.proofs.Common.{◌≡◌, ◌≢◌, ℕ, zero, suc, ◌+◌, ◌%◌, ◌<◌, ◌≤◌, ◌==◌, Bool, true, false, cond, List, [], ◌∷◌, ◌++◌, length, All, get_or, set, take, drop, slice_set, refl, sym, ap, ◌∙◌, subst, arith, eq-eqb, ne_eqb}
+use Rattle.std.proofs.Common.{◌≡◌, ◌≢◌, ℕ, zero, suc, ◌+◌, ◌%◌, ◌<◌, ◌≤◌, ◌==◌, Bool, true, false, cond, List, [], ◌∷◌, ◌++◌, map, vec_len, length, All, get_or, set, take, drop, slice_set, refl, sym, ap, ◌∙◌, subst, arith, eq-eqb, ne_eqb}
 use Rattle.std.specs.declared.vec.Vec.{Vec}
 use Rattle.std.specs.Vec.{with_item}
 use Rattle.std.proofs.lemmas.List.{drop_more, take_more, append_assoc, append-nil, length-append, map-append, map-set, length-map, get_or-set_same, get_or-set_other}
 use Rattle.std.proofs.lemmas.List.Elements.{All-nil, All-cons, All-set, All-get_or, All-filter, filter-append, filter_passes}
 use mathlib.Core.Logic.{dite}
 use native.Mathlib.Decide.{ℕ_discrete}
-use Rattle.ck_words.specs.declared.back.Back.{Back}
 use Rattle.ck_epoch.specs.declared.item.Item.{Item}
 use Rattle.ck_epoch.specs.declared.item.Retired.{Retired}
-use Rattle.ck_epoch.specs.Lists.{is_on, on, off, by_list, items_on, in_a_row, AreListsOf, homes, PendingList, lists_view, ListsHaveRoom, AreRetired, IsDispatched, AreDispatched}
+use Rattle.ck_epoch.specs.State.{Retirement, queue}
+use Rattle.ck_epoch.specs.Lists.{is_on, on, off, by_list, items_on, in_a_row, AreListsOf, PendingList, lists_view, ListsHaveRoom, AreRetired, IsDispatched, AreDispatched}
 use Rattle.ck_epoch.proofs.FourLists.{on-off, on_gone, length_by_list}
 
 -- the lists after one of them is set to these items
@@ -18,11 +18,11 @@ set_list lists at items list low = dite (ℕ_discrete list at)
     (λ (e : list ≡ at). ap (λ (k : ℕ). get_or (set lists at items) k []) e ∙ (get_or-set_same lists at items [] low ∙ sym (ap (λ (b : Bool). cond b items (items_on lists list)) (eq-eqb list at e))))
     (λ (n : list ≢ at). get_or-set_other lists at list items [] n ∙ sym (ap (λ (b : Bool). cond b items (items_on lists list)) (ne_eqb list at n)))
 
-pub view_set : (ls : List PendingList) (at : ℕ) (l : PendingList) (list : ℕ) → at < length ls → items_on (lists_view (slice_set ls at l)) list ≡ cond (list == at) l.items (items_on (lists_view ls) list)
+view_set : (ls : List PendingList) (at : ℕ) (l : PendingList) (list : ℕ) → at < length ls → items_on (lists_view (slice_set ls at l)) list ≡ cond (list == at) l.items (items_on (lists_view ls) list)
 view_set ls at l list low = ap (λ (xs : List (List Retired)). items_on xs list) (map-set (λ (x : PendingList). x.items) ls at l)
     ∙ set_list (lists_view ls) at l.items list (let z = length-map ls (λ (x : PendingList). x.items) in omega arith)
 
-pub view_at : (ls : List PendingList) (at : ℕ) (l : PendingList) → at < length ls → l ≡ get_or ls at l → items_on (lists_view ls) at ≡ l.items
+view_at : (ls : List PendingList) (at : ℕ) (l : PendingList) → at < length ls → l ≡ get_or ls at l → items_on (lists_view ls) at ≡ l.items
 view_at [] at l low e = absurd (omega arith)
 view_at (x ∷ ls) zero l low e = ap (λ (k : PendingList). k.items) (sym e)
 view_at (x ∷ ls) (suc at) l low e = view_at ls at l (omega arith) e
@@ -35,7 +35,7 @@ lengths lists =
     omega arith
 
 -- the items of one list are no more than those of all four
-pub one_of_four : (lists : List (List Retired)) (list : ℕ) → list < 4 → length (items_on lists list) ≤ length (in_a_row lists)
+one_of_four : (lists : List (List Retired)) (list : ℕ) → list < 4 → length (items_on lists list) ≤ length (in_a_row lists)
 one_of_four lists zero low = let z = lengths lists in omega arith
 one_of_four lists (suc zero) low = let z = lengths lists in omega arith
 one_of_four lists (suc (suc zero)) low = let z = lengths lists in omega arith
@@ -46,7 +46,7 @@ one_of_four lists (suc (suc (suc (suc n)))) low = absurd (omega arith)
 abbrev pub IsEmptied : ℕ → List (List Retired) → List (List Retired) → Type 0
 IsEmptied list lists after = (other : ℕ) → other < 4 → items_on after other ≡ cond (other == list) [] (items_on lists other)
 
-pub emptied_length : (list : ℕ) (lists after : List (List Retired)) → list < 4 → IsEmptied list lists after → length (items_on lists list) + length (in_a_row after) ≡ length (in_a_row lists)
+emptied_length : (list : ℕ) (lists after : List (List Retired)) → list < 4 → IsEmptied list lists after → length (items_on lists list) + length (in_a_row after) ≡ length (in_a_row lists)
 emptied_length list lists after low is = cases list low is
   where
     each : (list : ℕ) → IsEmptied list lists after → (other : ℕ) → other < 4 → length (items_on after other) ≡ length (cond (other == list) [] (items_on lists other))
@@ -72,7 +72,7 @@ module _ (xs : List Retired) (i : ℕ) (low : i < length xs) (r : Retired) (rest
   same : r ∷ rest ≡ get_or xs i r ∷ drop (i + 1) xs
   same = sym popped ∙ (left ∙ drop_more xs i r low)
 
-  pub is_next : r ≡ get_or xs i r
+  is_next : r ≡ get_or xs i r
   is_next = ap (λ (ys : List Retired). get_or ys 0 r) same
 
   pub rest_is : rest ≡ drop (i + 1) xs
@@ -81,17 +81,17 @@ module _ (xs : List Retired) (i : ℕ) (low : i < length xs) (r : Retired) (rest
   pub next_may : (retires : Item → Bool) (pending : List Retired) → AreDispatched retires pending xs → IsDispatched retires pending r
   next_may retires pending may = subst (IsDispatched retires pending) (sym is_next) (All-get_or (IsDispatched retires pending) xs i r low may)
 
-  pub next_waits : (home : Item → Back) (ws us vs : List Back) (b : Back) → us ≡ ws ++ homes home (take i xs) → vs ≡ us ++ b ∷ [] → b ≡ home r.item → vs ≡ ws ++ homes home (take (i + 1) xs)
-  next_waits home ws us vs b before pushed answer = pushed
-      ∙ ((λ j. before j ++ answer j ∷ [])
-      ∙ (append_assoc ws (homes home (take i xs)) (home r.item ∷ [])
-      ∙ ap (λ (ys : List Back). ws ++ ys) (sym (ap (homes home) (take_more xs i r low ∙ ap (λ (x : Retired). take i xs ++ x ∷ []) (sym is_next)) ∙ map-append (λ (x : Retired). home x.item) (take i xs) (r ∷ [])))))
+  pub next_waits : {W : Type 0} (f : Retired → W) (ws us vs : List W) (w : W) → us ≡ ws ++ map f (take i xs) → vs ≡ us ++ w ∷ [] → w ≡ f r → vs ≡ ws ++ map f (take (i + 1) xs)
+  next_waits {W} f ws us vs w before pushed is = pushed
+      ∙ ((λ j. before j ++ is j ∷ [])
+      ∙ (append_assoc ws (map f (take i xs)) (f r ∷ [])
+      ∙ ap (λ (ys : List W). ws ++ ys) (sym (ap (map f) (take_more xs i r low ∙ ap (λ (x : Retired). take i xs ++ x ∷ []) (sym is_next)) ∙ map-append f (take i xs) (r ∷ [])))))
 
 -- an item was put behind those of its list
 abbrev pub IsPut : Retired → List (List Retired) → List (List Retired) → Type 0
 IsPut r lists after = (list : ℕ) → list < 4 → items_on after list ≡ items_on lists list ++ on list (r ∷ [])
 
-pub put_length : (r : Retired) (lists after : List (List Retired)) → IsPut r lists after → length (in_a_row after) ≡ length (in_a_row lists) + 1
+put_length : (r : Retired) (lists after : List (List Retired)) → IsPut r lists after → length (in_a_row after) ≡ length (in_a_row lists) + 1
 put_length r lists after is =
     let x = lengths lists in let y = lengths after in
     let more = λ (list : ℕ) (low : list < 4). ap length (is list low) ∙ length-append (items_on lists list) (on list (r ∷ [])) in
@@ -107,13 +107,13 @@ module _ {Z : Type 0} (lists : Vec PendingList Z) (waiting room : ℕ) (has : Li
   is_low at low = let a = has.four in let b = lists.ok.0 in omega arith
 
   -- a list of the four
-  pub room_at : (at : ℕ) (l : PendingList) → at < 4 → l ≡ get_or lists.items at l → l.room ≡ room
+  room_at : (at : ℕ) (l : PendingList) → at < 4 → l ≡ get_or lists.items at l → l.room ≡ room
   room_at at l low e = subst (λ (k : PendingList). k.room ≡ room) (sym e) (All-get_or (λ (k : PendingList). k.room ≡ room) lists.items at l (is_low at low) has.roomy)
 
-  pub items_at : (at : ℕ) (l : PendingList) → at < 4 → l ≡ get_or lists.items at l → items_on (lists_view lists.items) at ≡ l.items
+  items_at : (at : ℕ) (l : PendingList) → at < 4 → l ≡ get_or lists.items at l → items_on (lists_view lists.items) at ≡ l.items
   items_at at l low e = view_at lists.items at l (is_low at low) e
 
-  pub room_after : (at : ℕ) (l k : PendingList) (waiting' room' : ℕ) → at < 4 → l ≡ get_or lists.items at l → k.room ≡ l.room → room' ≡ room
+  room_after : (at : ℕ) (l k : PendingList) (waiting' room' : ℕ) → at < 4 → l ≡ get_or lists.items at l → k.room ≡ l.room → room' ≡ room
       → length (in_a_row (lists_view (slice_set lists.items at k))) + waiting' ≤ room' → ListsHaveRoom (with_item lists at k) waiting' room'
   room_after at l k waiting' room' low e same is fits = record {
     four = has.four;
@@ -134,34 +134,60 @@ module _ {Z : Type 0} (lists : Vec PendingList Z) (waiting room : ℕ) (has : Li
   pub is_emptied : (at : ℕ) (k : PendingList) → at < 4 → k.items ≡ [] → IsEmptied at (lists_view lists.items) (lists_view (slice_set lists.items at k))
   is_emptied at k low empty other few = view_set lists.items at k other (is_low at low) ∙ ap (λ (xs : List Retired). cond (other == at) xs (items_on (lists_view lists.items) other)) empty
 
+  -- a list has room for an item more where all pending items and some more are fewer than there is room for
+  pub has_room : (at : ℕ) (l : PendingList) (more : ℕ) → at < 4 → l ≡ get_or lists.items at l → length (in_a_row (lists_view lists.items)) + more < room → length l.items < l.room
+  has_room at l more low e few = let a = room_at at l low e in let b = ap length (items_at at l low e) in let c = one_of_four (lists_view lists.items) at low in omega arith
+
+  pub put_fits : (r : Retired) (at : ℕ) (l k : PendingList) → at ≡ r.epoch % 4 → at < 4 → l ≡ get_or lists.items at l → k ≡ record l { items = l.items ++ r ∷ [] } → length (in_a_row (lists_view lists.items)) + waiting < room
+      → ListsHaveRoom (with_item lists at k) waiting room
+  put_fits r at l k which low e pushed few = let more = put_length r _ _ (is_put r at l k which low e (ap (λ (x : PendingList). x.items) pushed)) in
+      room_after at l k waiting room low e (ap (λ (x : PendingList). x.room) pushed) refl (omega arith)
+
+  -- the items of one list wait
+  module _ (at : ℕ) (l k : PendingList) (low : at < 4) (e : l ≡ get_or lists.items at l) (emptied : k ≡ record l { items = [] }) where
+    pub emptied_total : length l.items + length (in_a_row (lists_view (slice_set lists.items at k))) ≡ length (in_a_row (lists_view lists.items))
+    emptied_total = let a = emptied_length at _ _ low (is_emptied at k low (ap (λ (x : PendingList). x.items) emptied)) in let b = ap length (items_at at l low e) in omega arith
+
+    pub emptied_fits : (waiting' room' : ℕ) → waiting' ≡ waiting + length l.items → room' ≡ room → ListsHaveRoom (with_item lists at k) waiting' room'
+    emptied_fits waiting' room' more same = let total = emptied_total in let fits = has.fits in room_after at l k waiting' room' low e (ap (λ (x : PendingList). x.room) emptied) same (omega arith)
+
 -- lists of which each is empty
-pub all_empty : (ls : List PendingList) → All (λ (l : PendingList). l.items ≡ []) ls → (list : ℕ) → list < length ls → items_on (lists_view ls) list ≡ []
+all_empty : (ls : List PendingList) → All (λ (l : PendingList). l.items ≡ []) ls → (list : ℕ) → list < length ls → items_on (lists_view ls) list ≡ []
 all_empty [] empty list low = absurd (omega arith)
 all_empty (l ∷ ls) empty zero low = empty 0 l (omega arith)
 all_empty (l ∷ ls) empty (suc list) low = all_empty ls (λ k d m. empty (suc k) d (omega arith)) list (omega arith)
 
-pub none_in_a_row : (lists : List (List Retired)) → ((list : ℕ) → list < 4 → items_on lists list ≡ []) → in_a_row lists ≡ []
+none_in_a_row : (lists : List (List Retired)) → ((list : ℕ) → list < 4 → items_on lists list ≡ []) → in_a_row lists ≡ []
 none_in_a_row lists none =
     ap (λ (xs : List Retired). xs ++ (items_on lists 1 ++ (items_on lists 2 ++ items_on lists 3))) (none 0 (omega arith))
     ∙ (ap (λ (xs : List Retired). xs ++ (items_on lists 2 ++ items_on lists 3)) (none 1 (omega arith))
     ∙ (ap (λ (xs : List Retired). xs ++ items_on lists 3) (none 2 (omega arith)) ∙ none 3 (omega arith)))
 
+-- four new lists
+module _ {Z : Type 0} (lists : Vec PendingList Z) (room : ℕ) (four : vec_len lists ≡ 4) (each : All (λ (l : PendingList). (l.room ≡ room) × (l.items ≡ [])) lists.items) where
+  pub none_pending : (list : ℕ) → list < 4 → items_on (lists_view lists.items) list ≡ []
+  none_pending list low = all_empty lists.items (λ k d l. (each k d l).1) list (let a = lists.ok.0 in omega arith)
+
+  pub new_fits : (waiting room' : ℕ) → waiting ≡ 0 → room' ≡ room → ListsHaveRoom lists waiting room'
+  new_fits waiting room' none same = let zero_long = ap length (none_in_a_row (lists_view lists.items) none_pending) in record {
+    four = four;
+    roomy = λ k d l. (each k d l).0 ∙ sym same;
+    fits = omega arith;
+  }
+
 -- the four lists were dispatched one after the other
-module _ (home : Item → Back) (w0 w1 w2 w3 w4 : List Back) (l0 l1 l2 l3 : List (List Retired)) where
-  pub all_wait : w1 ≡ w0 ++ homes home (items_on l0 0) → w2 ≡ w1 ++ homes home (items_on l1 1) → w3 ≡ w2 ++ homes home (items_on l2 2) → w4 ≡ w3 ++ homes home (items_on l3 3)
-      → IsEmptied 0 l0 l1 → IsEmptied 1 l1 l2 → IsEmptied 2 l2 l3 → w4 ≡ w0 ++ homes home (in_a_row l0)
+module _ {W : Type 0} (f : Retired → W) (w0 w1 w2 w3 w4 : List W) (l0 l1 l2 l3 : List (List Retired)) where
+  pub all_wait : w1 ≡ w0 ++ map f (items_on l0 0) → w2 ≡ w1 ++ map f (items_on l1 1) → w3 ≡ w2 ++ map f (items_on l2 2) → w4 ≡ w3 ++ map f (items_on l3 3)
+      → IsEmptied 0 l0 l1 → IsEmptied 1 l1 l2 → IsEmptied 2 l2 l3 → w4 ≡ w0 ++ map f (in_a_row l0)
   all_wait e1 e2 e3 e4 g1 g2 g3 =
-      let h = λ (xs : List Retired). homes home xs in
+      let h = λ (xs : List Retired). map f xs in
       let a = items_on l0 0 in let b = items_on l0 1 in let c = items_on l0 2 in let d = items_on l0 3 in
       let is1 : items_on l1 1 ≡ b = g1 1 (omega arith) in
       let is2 : items_on l2 2 ≡ c = g2 2 (omega arith) ∙ g1 2 (omega arith) in
       let is3 : items_on l3 3 ≡ d = g3 3 (omega arith) ∙ (g2 3 (omega arith) ∙ g1 3 (omega arith)) in
       e4 ∙ ((λ i. e3 i ++ h (is3 i)) ∙ ((λ i. (e2 i ++ h (is2 i)) ++ h d) ∙ ((λ i. ((e1 i ++ h (is1 i)) ++ h c) ++ h d)
       ∙ (append_assoc ((w0 ++ h a) ++ h b) (h c) (h d) ∙ (append_assoc (w0 ++ h a) (h b) (h c ++ h d) ∙ (append_assoc w0 (h a) (h b ++ (h c ++ h d))
-      ∙ ap (λ (bs : List Back). w0 ++ bs) (sym (homes_of a (b ++ (c ++ d)) ∙ ap (λ (bs : List Back). h a ++ bs) (homes_of b (c ++ d) ∙ ap (λ (bs : List Back). h b ++ bs) (homes_of c d))))))))))
-    where
-      homes_of : (xs ys : List Retired) → homes home (xs ++ ys) ≡ homes home xs ++ homes home ys
-      homes_of xs ys = map-append (λ (r : Retired). home r.item) xs ys
+      ∙ ap (λ (ws : List W). w0 ++ ws) (sym (map-append f a (b ++ (c ++ d)) ∙ ap (λ (ws : List W). h a ++ ws) (map-append f b (c ++ d) ∙ ap (λ (ws : List W). h b ++ ws) (map-append f c d))))))))))
 
 -- The lists as those of the pending items
 pub lists_more : (r : Retired) (lists after : List (List Retired)) (pending : List Retired) → AreListsOf lists pending → IsPut r lists after → AreListsOf after (pending ++ r ∷ [])
@@ -174,6 +200,38 @@ lists_off list lists after pending are is other low = is other low ∙ (ap (cond
 
 pub row_is : (lists : List (List Retired)) (pending : List Retired) → AreListsOf lists pending → in_a_row lists ≡ by_list pending
 row_is lists pending are = λ i. are 0 (omega arith) i ++ (are 1 (omega arith) i ++ (are 2 (omega arith) i ++ are 3 (omega arith) i))
+
+-- how many items are pending
+pub row_length : (lists : List (List Retired)) (ks : List Retirement) → AreListsOf lists (queue ks) → length (in_a_row lists) ≡ length ks
+row_length lists ks are = ap length (row_is lists (queue ks) are) ∙ (length_by_list (queue ks) ∙ length-map ks (λ (k : Retirement). k.retired))
+
+-- What waits, and how many items were dispatched: the list of this number, and then another or all others
+module _ (lists lists' : List (List Retired)) (pending : List Retired) (are : AreListsOf lists pending) (list : ℕ) (low : list < 4) (is : IsEmptied list lists lists') where
+  left_are : AreListsOf lists' (off list pending)
+  left_are = lists_off list lists lists' pending are is
+
+  module _ {W : Type 0} (f : Retired → W) (before after : List W) (first : after ≡ before ++ map f (items_on lists list)) where
+    pub waits_one : after ≡ before ++ map f (on list pending)
+    waits_one = first ∙ ap (λ (xs : List Retired). before ++ map f xs) (are list low)
+
+    waits_more : (last : List W) (xs ys : List Retired) → last ≡ after ++ map f xs → xs ≡ ys → last ≡ before ++ map f (on list pending ++ ys)
+    waits_more last xs ys more same = more ∙ ((λ i. waits_one i ++ map f (same i)) ∙ (append_assoc before (map f (on list pending)) (map f ys) ∙ ap (λ (ws : List W). before ++ ws) (sym (map-append f (on list pending) ys))))
+
+    pub waits_two : (last : List W) (list' : ℕ) → list' < 4 → last ≡ after ++ map f (items_on lists' list') → last ≡ before ++ map f (on list pending ++ on list' (off list pending))
+    waits_two last list' low' more = waits_more last (items_on lists' list') (on list' (off list pending)) more (left_are list' low')
+
+    pub waits_all : (last : List W) → last ≡ after ++ map f (in_a_row lists') → last ≡ before ++ map f (on list pending ++ by_list (off list pending))
+    waits_all last more = waits_more last (in_a_row lists') (by_list (off list pending)) more (row_is lists' (off list pending) left_are)
+
+  module _ (n : ℕ) (first : n ≡ length (items_on lists list)) where
+    pub count_one : n ≡ length (on list pending)
+    count_one = first ∙ ap length (are list low)
+
+    pub count_two : (m list' : ℕ) → list' < 4 → m ≡ length (items_on lists' list') → n + m ≡ length (on list pending ++ on list' (off list pending))
+    count_two m list' low' more = let a = count_one in let b = more ∙ ap length (left_are list' low') in let c = length-append (on list pending) (on list' (off list pending)) in omega arith
+
+    pub count_all : (m : ℕ) → m ≡ length (in_a_row lists') → n + m ≡ length (on list pending ++ by_list (off list pending))
+    count_all m more = let a = count_one in let b = more ∙ ap length (row_is lists' (off list pending) left_are) in let c = length-append (on list pending) (by_list (off list pending)) in omega arith
 
 -- no item of a list is pending where none of that list is
 not_on_more : (list : ℕ) (p : Retired) (ps : List Retired) (b : Bool) → is_on list p ≡ b → on list (p ∷ ps) ≡ [] → (on list ps ≡ [] → All (λ (x : Retired). is_on list x ≡ false) ps) → All (λ (x : Retired). is_on list x ≡ false) (p ∷ ps)

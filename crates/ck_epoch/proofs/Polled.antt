@@ -1,6 +1,5 @@
 -- What a poll leaves of the writer's queue.
-use Rattle.std.proofs.Common.{◌≡◌, ℕ, ◌+◌, ◌-◌, ◌%◌, ◌<◌, ◌≤◌, Bool, true, false, not, cond, List, [], ◌++◌, length, length-append, append_assoc, sym, ap, ◌∙◌, subst, refl, arith}
-use Rattle.std.proofs.lemmas.List.{map-append, length-map}
+use Rattle.std.proofs.Common.{◌≡◌, ℕ, ◌+◌, ◌-◌, ◌%◌, ◌≤◌, Bool, true, false, not, cond, List, [], ◌++◌, length, append_assoc, sym, ap, ◌∙◌, subst, refl, arith}
 use Rattle.std.proofs.lemmas.List.Elements.{All-filter}
 use Rattle.ck_words.specs.declared.back.Back.{Back}
 use Rattle.ck_run.specs.Tokens.{Table, table, origin}
@@ -10,13 +9,13 @@ use Rattle.ck_epoch.specs.declared.item.Retired.{Retired}
 use Rattle.ck_epoch.specs.declared.answers.Poll.{Poll}
 use Rattle.ck_epoch.specs.declared.answers.Poll.TheVariants.{Clear, Moved}
 use Rattle.ck_epoch.specs.State.{Token, TokenState, Retirement, on_list, off_list, list_by_list, queue, state}
-use Rattle.ck_epoch.specs.Lists.{Backlog, is_on, on, off, by_list, items_on, in_a_row, homes, AreListsOf, AreRetired}
+use Rattle.ck_epoch.specs.Lists.{Backlog, is_on, on, off, by_list, homes, AreListsOf, AreRetired}
 use Rattle.ck_epoch.specs.Client.{Client}
 use Rattle.ck_epoch.specs.Ends.{Writer, IsWriter}
 use Rattle.ck_epoch.specs.Calls.{dispatched_items}
 use Rattle.ck_epoch.specs.Scan.{first_dispatch, IsDone}
-use Rattle.ck_epoch.proofs.FourLists.{on_gone, length_by_list, queue_off, queue_on, queue_by_list, queue_behind}
-use Rattle.ck_epoch.proofs.Emptying.{IsEmptied, lists_off, row_is}
+use Rattle.ck_epoch.proofs.FourLists.{on_gone, queue_off, queue_on, queue_by_list, queue_behind}
+use Rattle.ck_epoch.proofs.Emptying.{IsEmptied, lists_off}
 
 -- the token's domain is the one that keeps this
 pub config_is : {C : Type 0} (t : Token C) (d now : Table (About C)) (about : About C) → table t ≡ now → d ≡ now → d.origin.config ≡ about → (origin t).config ≡ about
@@ -96,41 +95,6 @@ module _ (e : ℕ) (s : TokenState) where
   pub gone_all : queue (first_dispatch e s ++ list_by_list (off_list first_list s.pending)) ≡ queue s.dispatched ++ dispatched_items e (Clear 0) (queue s.pending)
   gone_all = gone_more (list_by_list (off_list first_list s.pending)) (by_list (off first_list (queue s.pending)))
       (queue_by_list (off_list first_list s.pending) ∙ ap by_list (queue_off first_list s.pending))
-
--- What waits, and how many items were dispatched: the list of this number, and then another or all others
-module _ (home : Item → Back) (lists lists' : List (List Retired)) (pending : List Retired) (are : AreListsOf lists pending) (list : ℕ) (low : list < 4) (is : IsEmptied list lists lists') where
-  homes-append : (xs ys : List Retired) → homes home (xs ++ ys) ≡ homes home xs ++ homes home ys
-  homes-append xs ys = map-append (λ (r : Retired). home r.item) xs ys
-
-  left_are : AreListsOf lists' (off list pending)
-  left_are = lists_off list lists lists' pending are is
-
-  module _ (before after : List Back) (first : after ≡ before ++ homes home (items_on lists list)) where
-    pub waits_one : after ≡ before ++ homes home (on list pending)
-    waits_one = first ∙ ap (λ (xs : List Retired). before ++ homes home xs) (are list low)
-
-    waits_more : (last : List Back) (xs ys : List Retired) → last ≡ after ++ homes home xs → xs ≡ ys → last ≡ before ++ homes home (on list pending ++ ys)
-    waits_more last xs ys more same = more ∙ ((λ i. waits_one i ++ homes home (same i)) ∙ (append_assoc before (homes home (on list pending)) (homes home ys) ∙ ap (λ (bs : List Back). before ++ bs) (sym (homes-append (on list pending) ys))))
-
-    pub waits_two : (last : List Back) (list' : ℕ) → list' < 4 → last ≡ after ++ homes home (items_on lists' list') → last ≡ before ++ homes home (on list pending ++ on list' (off list pending))
-    waits_two last list' low' more = waits_more last (items_on lists' list') (on list' (off list pending)) more (left_are list' low')
-
-    pub waits_all : (last : List Back) → last ≡ after ++ homes home (in_a_row lists') → last ≡ before ++ homes home (on list pending ++ by_list (off list pending))
-    waits_all last more = waits_more last (in_a_row lists') (by_list (off list pending)) more (row_is lists' (off list pending) left_are)
-
-  module _ (n : ℕ) (first : n ≡ length (items_on lists list)) where
-    pub count_one : n ≡ length (on list pending)
-    count_one = first ∙ ap length (are list low)
-
-    pub count_two : (m list' : ℕ) → list' < 4 → m ≡ length (items_on lists' list') → n + m ≡ length (on list pending ++ on list' (off list pending))
-    count_two m list' low' more = let a = count_one in let b = more ∙ ap length (left_are list' low') in let c = length-append (on list pending) (on list' (off list pending)) in omega arith
-
-    pub count_all : (m : ℕ) → m ≡ length (in_a_row lists') → n + m ≡ length (on list pending ++ by_list (off list pending))
-    count_all m more = let a = count_one in let b = more ∙ ap length (row_is lists' (off list pending) left_are) in let c = length-append (on list pending) (by_list (off list pending)) in omega arith
-
--- how many items are pending
-pub row_length : (lists : List (List Retired)) (ks : List Retirement) → AreListsOf lists (queue ks) → length (in_a_row lists) ≡ length ks
-row_length lists ks are = ap length (row_is lists (queue ks) are) ∙ (length_by_list (queue ks) ∙ length-map ks (λ (k : Retirement). k.retired))
 
 -- The same told of the writer and of the domain as contracts see them
 module _ {C F : Type 0} (client : Client C) (about : About C) (d now : Table (About C)) (keeps : d ≡ now) (told : d.origin.config ≡ about) (v : Writer C F) (t : Token C) (waiting : List Back) (e : ℕ) (epoch : (state t).epoch ≡ e) (p : Poll) where

@@ -1,6 +1,6 @@
 -- What a call that retires or dispatches leaves of the items of a member.
-use Rattle.std.proofs.Common.{◌≡◌, ℕ, ◌+◌, ◌<◌, ◌^◌, inl, List, [], ◌∷◌, ◌++◌, length, length-append, append_assoc, refl, sym, ap, ◌∙◌, subst, arith}
-use Rattle.std.proofs.lemmas.List.{map-append, length-map}
+use Rattle.std.proofs.Common.{◌≡◌, ℕ, ◌+◌, ◌<◌, ◌^◌, inl, List, [], ◌∷◌, ◌++◌, length, append_assoc, refl, sym, ap, ◌∙◌, subst}
+use Rattle.std.proofs.lemmas.List.{map-append}
 use Rattle.ck_run.specs.declared.account.Step.TheVariants.{Load}
 use Rattle.ck_run.specs.declared.account.Entry.{Entry}
 use Rattle.ck_run.specs.Run.{handing}
@@ -10,22 +10,18 @@ use Rattle.ck_epoch.specs.declared.item.Item.{Item}
 use Rattle.ck_epoch.specs.declared.item.Retired.{Retired}
 use Rattle.ck_epoch.specs.State.{Retirement, retirement, queue, on_list, off_list, list_by_list}
 use Rattle.ck_epoch.specs.Lists.{on, off, by_list, items_on, in_a_row, AreListsOf}
-use Rattle.ck_epoch.proofs.FourLists.{length_by_list, queue_off, queue_on, queue_by_list, queue_behind}
-use Rattle.ck_epoch.proofs.Emptying.{IsPut, IsEmptied, lists_more, lists_off, row_is}
+use Rattle.ck_epoch.proofs.FourLists.{queue_off, queue_on, queue_by_list, queue_behind}
+use Rattle.ck_epoch.proofs.Emptying.{IsPut, IsEmptied, lists_more, lists_off, waits_one, waits_all, count_one, count_all}
 use Rattle.ck_registry.specs.State.{Token, TokenState, resting, retire, records_of, registry, state}
 use Rattle.ck_registry.specs.Deferred.{Deferred, items_of, IsLeftOf}
 use Rattle.ck_registry.specs.Ends.{Member, IsHolder, AreDeferred}
-use Rattle.ck_registry.proofs.Waiting.{items-append, waits_more}
+use Rattle.ck_registry.proofs.Waiting.{waits_more}
 use Rattle.ck_registry.proofs.Stepping.{Steps, Went, stays, may_go, goes, went_as, may_load, after_idle_load, holder_after}
 
 -- a member as contracts see it, of equal parts
 pub member_is : (u v : Token) (ws ws' : List Item) (room room' calls : ℕ) → u ≡ v → ws ≡ ws' → room ≡ room'
     → ◌≡◌ {A = Member} (record { token = u; calls = calls; waiting = ws; room = room }) (record { token = v; calls = calls; waiting = ws'; room = room' })
 member_is u v ws ws' room room' calls e f g = λ i. record { token = e i; calls = calls; waiting = f i; room = g i }
-
--- how many items are pending
-pub row_length : (lists : List (List Retired)) (ks : List Retirement) → AreListsOf lists (queue ks) → length (in_a_row lists) ≡ length ks
-row_length lists ks are = ap length (row_is lists (queue ks) are) ∙ (length_by_list (queue ks) ∙ length-map ks (λ (k : Retirement). k.retired))
 
 -- `call`
 module _ (t : Token) (rec d : ℕ) (h : IsHolder t rec d) (few : (state t).calls < 2 ^ 40) (i : Item) where
@@ -77,13 +73,13 @@ module _ (t : Token) (b b' : Deferred) (are : AreDeferred t b) (list : ℕ) (low
   gone = queue (state t).dispatched
 
   pub one_waits : b'.waiting ≡ b.waiting ++ items_of (on list p)
-  one_waits = w ∙ ap (λ (rs : List Retired). b.waiting ++ items_of rs) (are.pending list low)
+  one_waits = waits_one b.lists b'.lists p are.pending list low is (λ (r : Retired). r.item) b.waiting b'.waiting w
 
   pub one_left : AreListsOf b'.lists (off list p)
   one_left = lists_off list b.lists b'.lists p are.pending is
 
   pub one_count : (n : ℕ) → n ≡ length (items_on b.lists list) → n ≡ length (on list p)
-  one_count n e = e ∙ ap length (are.pending list low)
+  one_count = count_one b.lists b'.lists p are.pending list low is
 
   -- as the account tells it
   module _ (u : Token) (pending : (state u).pending ≡ off_list list (state t).pending) (dispatched : (state u).dispatched ≡ (state t).dispatched ++ on_list list (state t).pending) where
@@ -104,15 +100,11 @@ module _ (t : Token) (b b' : Deferred) (are : AreDeferred t b) (list : ℕ) (low
     abbrev all : List Retired
     all = on list p ++ by_list (off list p)
 
-    row : in_a_row b'.lists ≡ by_list (off list p)
-    row = row_is b'.lists (off list p) one_left
-
     pub all_waits : b''.waiting ≡ b.waiting ++ items_of all
-    all_waits = w' ∙ ((λ j. one_waits j ++ items_of (row j)) ∙ (append_assoc b.waiting (items_of (on list p)) (items_of (by_list (off list p)))
-        ∙ ap (λ (ws : List Item). b.waiting ++ ws) (sym (items-append (on list p) (by_list (off list p))))))
+    all_waits = waits_all b.lists b'.lists p are.pending list low is (λ (r : Retired). r.item) b.waiting b'.waiting w b''.waiting w'
 
     pub all_count : (n m : ℕ) → n ≡ length (items_on b.lists list) → m ≡ length (in_a_row b'.lists) → n + m ≡ length all
-    all_count n m e f = let a = one_count n e in let c = f ∙ ap length row in let z = length-append (on list p) (by_list (off list p)) in omega arith
+    all_count n m e = count_all b.lists b'.lists p are.pending list low is n e m
 
     module _ (u : Token) (pending : (state u).pending ≡ []) (dispatched : (state u).dispatched ≡ ((state t).dispatched ++ on_list list (state t).pending) ++ list_by_list (off_list list (state t).pending)) where
       pub all_dispatched : queue (state u).dispatched ≡ gone ++ all

@@ -1,4 +1,5 @@
 use Rattle.std.proofs.Common.{rules, ◌<◌, length, ◌∙◌, arith}
+use Rattle.ck_epoch.specs.declared.item.Retired.{Retired}
 use Rattle.ck_epoch.specs.State.{queue, state}
 use Rattle.ck_epoch.proofs.Emptying.{rest_is, next_may, next_waits}
 use Rattle.ck_epoch.proofs.backlog.dispatch.Goals as goal
@@ -16,7 +17,7 @@ loop-i-preserved g c =
     record {
       items = rest_is xs c.loop-i._i low c.pop-item.result _ _ kept.items c.pop-item.ensures.first;
       room = c.pop-item.ensures.room ∙ kept.room;
-      waiting = next_waits xs c.loop-i._i low c.pop-item.result _ _ kept.items c.pop-item.ensures.first (g.C.Client.meaning.home c.args.client.now) c.args.waiting.now.items c.loop-i.waiting.items c.push_back_reserved.new.self.items c.answer.result kept.waiting c.push_back_reserved.ensures.items c.answer.ensures;
+      waiting = next_waits xs c.loop-i._i low c.pop-item.result _ _ kept.items c.pop-item.ensures.first (λ (r : Retired). g.C.Client.meaning.home c.args.client.now r.item) c.args.waiting.now.items c.loop-i.waiting.items c.push_back_reserved.new.self.items c.answer.result kept.waiting c.push_back_reserved.ensures.items c.answer.ensures;
       len = let a = c.push_back_reserved.ensures.len in let b = kept.len in omega arith;
       capacity = c.push_back_reserved.ensures.capacity ∙ kept.capacity;
     }

@@ -6,8 +6,8 @@ use Rattle.ck_epoch.specs.declared.item.Retired.{Retired}
 use Rattle.ck_epoch.proofs.FourLists.{queue_by_list, queue_behind}
 use Rattle.ck_epoch.specs.Lists.{on, by_list}
 use Rattle.ck_epoch.specs.Ends.{Writer}
-use Rattle.ck_epoch.proofs.Emptying.{are_dispatched}
-use Rattle.ck_epoch.proofs.Polled.{config_is, were_retired, row_length}
+use Rattle.ck_epoch.proofs.Emptying.{row_length, are_dispatched}
+use Rattle.ck_epoch.proofs.Polled.{config_is, were_retired}
 use Rattle.ck_epoch.specs.Rounds.{Rounds, HaveEnded}
 use Rattle.ck_epoch.proofs.TwoRounds.{is_free, both_after, ended_after}
 use Rattle.ck_epoch.proofs.domain.Domain.barrier.Goals as goal

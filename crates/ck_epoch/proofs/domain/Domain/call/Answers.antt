@@ -6,7 +6,7 @@ use Rattle.ck_epoch.specs.State.{Token, queue, state}
 use Rattle.ck_epoch.specs.Ends.{Writer, IsWriting}
 use Rattle.ck_epoch.specs.Calls.{MayFollow}
 use Rattle.ck_epoch.proofs.Retirements.{loaded, closed, may_retire, finds_epoch, queued, is_pending}
-use Rattle.ck_epoch.proofs.Polled.{row_length}
+use Rattle.ck_epoch.proofs.Emptying.{row_length}
 use Rattle.ck_epoch.proofs.domain.Domain.call.Goals as goal
 
 pub retire-epoch-requires-clause-may : goal.retire-epoch-requires-clause-may

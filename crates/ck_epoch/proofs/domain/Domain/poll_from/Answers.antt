@@ -2,11 +2,12 @@ use Rattle.std.proofs.Common.{ℕ, ◌-◌, ◌%◌, List, ◌++◌, ◌∙◌, 
 use Rattle.ck_run.specs.Tokens.{table, origin}
 use Rattle.ck_epoch.specs.State.{Token, Retirement, queue, off_list, state}
 use Rattle.ck_epoch.specs.Lists.{on, off}
+use Rattle.ck_epoch.specs.declared.item.Retired.{Retired}
 use Rattle.ck_epoch.specs.declared.answers.Poll.TheVariants.{Clear, Moved, Blocked}
 use Rattle.ck_epoch.specs.Calls.{dispatched_items}
 use Rattle.ck_epoch.specs.Ends.{Writer}
-use Rattle.ck_epoch.proofs.Polled.{config_is, were_retired, none_on, none_on_yet, left_retired, left_queue, rest_retired, rest_queue, writer_after, calls_after, kept_one, kept_two, gone_one, gone_two, gone_all, waits_two, waits_all, count_two, count_all, told_waiting, told_count}
-use Rattle.ck_epoch.proofs.Emptying.{are_dispatched}
+use Rattle.ck_epoch.proofs.Polled.{config_is, were_retired, none_on, none_on_yet, left_retired, left_queue, rest_retired, rest_queue, writer_after, calls_after, kept_one, kept_two, gone_one, gone_two, gone_all, told_waiting, told_count}
+use Rattle.ck_epoch.proofs.Emptying.{are_dispatched, waits_two, waits_all, count_two, count_all}
 use Rattle.ck_epoch.proofs.domain.Domain.poll_from.Goals as goal
 
 pub dispatch_list-before-requires-clause-items : goal.dispatch_list-before-requires-clause-items
@@ -81,7 +82,7 @@ returns-in-Clear-clause-waiting g c =
     let scanning = c.start_poll-epoch.ensures.scanning in
     told_waiting {F = g.row.F.Denot} meaning about c.self.inside.words c.args.self.now c.self.view_is c.self.invariant.told c.args.writer.now t b.waiting c.start_poll-epoch.result scanning.epoch.0 (Clear 0)
     c.writer.inside.calls b.room c.writer.inside.tally c.writer.inside.handler c.writer.view_is _
-    (waits_all (meaning.home about.client) b.lists _ (queue (state t).pending) c.writer.invariant.0.pending list (omega arith) c.dispatch_list-before.ensures.lists b.waiting _ c.dispatch_list-before.ensures.waiting _ c.dispatch_all-rest.ensures.waiting)
+    (waits_all b.lists _ (queue (state t).pending) c.writer.invariant.0.pending list (omega arith) c.dispatch_list-before.ensures.lists (λ (r : Retired). meaning.home about.client r.item) b.waiting _ c.dispatch_list-before.ensures.waiting _ c.dispatch_all-rest.ensures.waiting)
 
 pub returns-in-Clear-clause-count : goal.returns-in-Clear-clause-count
 returns-in-Clear-clause-count g c =
@@ -91,7 +92,7 @@ returns-in-Clear-clause-count g c =
     let scanning = c.start_poll-epoch.ensures.scanning in
     told_count {F = g.row.F.Denot} meaning about c.self.inside.words c.args.self.now c.self.view_is c.self.invariant.told c.args.writer.now t b.waiting c.start_poll-epoch.result scanning.epoch.0 (Clear 0)
     (ap (λ (v : Writer g.row.C.Denot g.row.F.Denot). v.token) (sym c.writer.view_is)) _
-    (count_all (meaning.home about.client) b.lists _ (queue (state t).pending) c.writer.invariant.0.pending list (omega arith) c.dispatch_list-before.ensures.lists c.dispatch_list-before.result c.dispatch_list-before.ensures.count c.dispatch_all-rest.result c.dispatch_all-rest.ensures.count)
+    (count_all b.lists _ (queue (state t).pending) c.writer.invariant.0.pending list (omega arith) c.dispatch_list-before.ensures.lists c.dispatch_list-before.result c.dispatch_list-before.ensures.count c.dispatch_all-rest.result c.dispatch_all-rest.ensures.count)
 
 pub returns-in-Current-clause-waiting : goal.returns-in-Current-clause-waiting
 returns-in-Current-clause-waiting g c =
@@ -101,7 +102,7 @@ returns-in-Current-clause-waiting g c =
     let scanning = c.start_poll-epoch.ensures.scanning in
     told_waiting {F = g.row.F.Denot} meaning about c.self.inside.words c.args.self.now c.self.view_is c.self.invariant.told c.args.writer.now t b.waiting c.start_poll-epoch.result scanning.epoch.0 (Moved 0 0)
     c.writer.inside.calls b.room c.writer.inside.tally c.writer.inside.handler c.writer.view_is _
-    (waits_two (meaning.home about.client) b.lists _ (queue (state t).pending) c.writer.invariant.0.pending list (omega arith) c.dispatch_list-before.ensures.lists b.waiting _ c.dispatch_list-before.ensures.waiting _ ((c.start_poll-epoch.result - 1) % 4) (omega arith) c.dispatch_list-rest.ensures.waiting)
+    (waits_two b.lists _ (queue (state t).pending) c.writer.invariant.0.pending list (omega arith) c.dispatch_list-before.ensures.lists (λ (r : Retired). meaning.home about.client r.item) b.waiting _ c.dispatch_list-before.ensures.waiting _ ((c.start_poll-epoch.result - 1) % 4) (omega arith) c.dispatch_list-rest.ensures.waiting)
 
 pub returns-in-Current-clause-count : goal.returns-in-Current-clause-count
 returns-in-Current-clause-count g c =
@@ -111,7 +112,7 @@ returns-in-Current-clause-count g c =
     let scanning = c.start_poll-epoch.ensures.scanning in
     told_count {F = g.row.F.Denot} meaning about c.self.inside.words c.args.self.now c.self.view_is c.self.invariant.told c.args.writer.now t b.waiting c.start_poll-epoch.result scanning.epoch.0 (Moved 0 0)
     (ap (λ (v : Writer g.row.C.Denot g.row.F.Denot). v.token) (sym c.writer.view_is)) _
-    (count_two (meaning.home about.client) b.lists _ (queue (state t).pending) c.writer.invariant.0.pending list (omega arith) c.dispatch_list-before.ensures.lists c.dispatch_list-before.result c.dispatch_list-before.ensures.count c.dispatch_list-rest.result ((c.start_poll-epoch.result - 1) % 4) (omega arith) c.dispatch_list-rest.ensures.count)
+    (count_two b.lists _ (queue (state t).pending) c.writer.invariant.0.pending list (omega arith) c.dispatch_list-before.ensures.lists c.dispatch_list-before.result c.dispatch_list-before.ensures.count c.dispatch_list-rest.result ((c.start_poll-epoch.result - 1) % 4) (omega arith) c.dispatch_list-rest.ensures.count)
 
 pub returns-in-Current-clause-pending : goal.returns-in-Current-clause-pending
 returns-in-Current-clause-pending g c =

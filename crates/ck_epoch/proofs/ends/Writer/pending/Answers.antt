@@ -1,7 +1,7 @@
 use Rattle.std.proofs.Common.{length, ap, ◌∙◌}
 use Rattle.ck_epoch.specs.State.{state}
 use Rattle.ck_epoch.specs.Ends.{Writer}
-use Rattle.ck_epoch.proofs.Polled.{row_length}
+use Rattle.ck_epoch.proofs.Emptying.{row_length}
 use Rattle.ck_epoch.proofs.ends.Writer.pending.Goals as goal
 
 pub returns : goal.returns

@@ -1,7 +1,7 @@
 use Rattle.std.proofs.Common.{length, ap, ◌∙◌}
 use Rattle.ck_registry.specs.State.{state}
 use Rattle.ck_registry.specs.Ends.{Member}
-use Rattle.ck_registry.proofs.Dispatching.{row_length}
+use Rattle.ck_epoch.proofs.Emptying.{row_length}
 use Rattle.ck_registry.proofs.ends.Member.pending.Goals as goal
 
 pub returns : goal.returns

@@ -3,9 +3,10 @@ use Rattle.ck_run.specs.declared.account.Step.TheVariants.{Load}
 use Rattle.ck_run.specs.Run.{handing}
 use Rattle.ck_run.specs.Tokens.{adding, table, number}
 use Rattle.ck_epoch.specs.State.{queue}
+use Rattle.ck_epoch.proofs.Emptying.{row_length}
 use Rattle.ck_registry.specs.State.{retire, state}
 use Rattle.ck_registry.specs.Ends.{Member, rec_of}
-use Rattle.ck_registry.proofs.Dispatching.{row_length, member_is, may_retire, is_retired, queued, retired_dispatched, retired_section, retired_rec, retired_calls, put_behind}
+use Rattle.ck_registry.proofs.Dispatching.{member_is, may_retire, is_retired, queued, retired_dispatched, retired_section, retired_rec, retired_calls, put_behind}
 use Rattle.ck_registry.proofs.registry.Registry.call.Goals as goal
 
 pub retire-epoch-requires-clause-may : goal.retire-epoch-requires-clause-may
