@@ -9,7 +9,7 @@ use native.Mathlib.Decide.{ℕ_discrete}
 use Rattle.ck_epoch.specs.declared.item.Item.{Item}
 use Rattle.ck_epoch.specs.declared.item.Retired.{Retired}
 use Rattle.ck_epoch.specs.State.{Retirement, queue}
-use Rattle.ck_epoch.specs.Lists.{is_on, on, off, by_list, items_on, in_a_row, AreListsOf, PendingList, lists_view, ListsHaveRoom, AreRetired, IsDispatched, AreDispatched}
+use Rattle.ck_epoch.specs.Lists.{is_on, on, off, by_list, items_on, in_a_row, AreListsOf, RetiredList, lists_view, ListsHaveRoom, AreRetired, IsDispatched, AreDispatched}
 use Rattle.ck_epoch.proofs.FourLists.{on-off, on_gone, length_by_list}
 
 -- the lists after one of them is set to these items
@@ -18,13 +18,13 @@ set_list lists at items list low = dite (ℕ_discrete list at)
     (λ (e : list ≡ at). ap (λ (k : ℕ). get_or (set lists at items) k []) e ∙ (get_or-set_same lists at items [] low ∙ sym (ap (λ (b : Bool). cond b items (items_on lists list)) (eq-eqb list at e))))
     (λ (n : list ≢ at). get_or-set_other lists at list items [] n ∙ sym (ap (λ (b : Bool). cond b items (items_on lists list)) (ne_eqb list at n)))
 
-view_set : (ls : List PendingList) (at : ℕ) (l : PendingList) (list : ℕ) → at < length ls → items_on (lists_view (slice_set ls at l)) list ≡ cond (list == at) l.items (items_on (lists_view ls) list)
-view_set ls at l list low = ap (λ (xs : List (List Retired)). items_on xs list) (map-set (λ (x : PendingList). x.items) ls at l)
-    ∙ set_list (lists_view ls) at l.items list (let z = length-map ls (λ (x : PendingList). x.items) in omega arith)
+view_set : (ls : List RetiredList) (at : ℕ) (l : RetiredList) (list : ℕ) → at < length ls → items_on (lists_view (slice_set ls at l)) list ≡ cond (list == at) l.items (items_on (lists_view ls) list)
+view_set ls at l list low = ap (λ (xs : List (List Retired)). items_on xs list) (map-set (λ (x : RetiredList). x.items) ls at l)
+    ∙ set_list (lists_view ls) at l.items list (let z = length-map ls (λ (x : RetiredList). x.items) in omega arith)
 
-view_at : (ls : List PendingList) (at : ℕ) (l : PendingList) → at < length ls → l ≡ get_or ls at l → items_on (lists_view ls) at ≡ l.items
+view_at : (ls : List RetiredList) (at : ℕ) (l : RetiredList) → at < length ls → l ≡ get_or ls at l → items_on (lists_view ls) at ≡ l.items
 view_at [] at l low e = absurd (omega arith)
-view_at (x ∷ ls) zero l low e = ap (λ (k : PendingList). k.items) (sym e)
+view_at (x ∷ ls) zero l low e = ap (λ (k : RetiredList). k.items) (sym e)
 view_at (x ∷ ls) (suc at) l low e = view_at ls at l (omega arith) e
 
 lengths : (lists : List (List Retired)) → length (in_a_row lists) ≡ length (items_on lists 0) + (length (items_on lists 1) + (length (items_on lists 2) + length (items_on lists 3)))
@@ -102,27 +102,27 @@ put_length r lists after is =
     let s = length-append (on 2 (r ∷ [])) (on 3 (r ∷ [])) in
     omega arith
 
-module _ {Z : Type 0} (lists : Vec PendingList Z) (waiting room : ℕ) (has : ListsHaveRoom lists waiting room) where
+module _ {Z : Type 0} (lists : Vec RetiredList Z) (waiting room : ℕ) (has : ListsHaveRoom lists waiting room) where
   is_low : (at : ℕ) → at < 4 → at < length lists.items
   is_low at low = let a = has.four in let b = lists.ok.0 in omega arith
 
   -- a list of the four
-  room_at : (at : ℕ) (l : PendingList) → at < 4 → l ≡ get_or lists.items at l → l.room ≡ room
-  room_at at l low e = subst (λ (k : PendingList). k.room ≡ room) (sym e) (All-get_or (λ (k : PendingList). k.room ≡ room) lists.items at l (is_low at low) has.roomy)
+  room_at : (at : ℕ) (l : RetiredList) → at < 4 → l ≡ get_or lists.items at l → l.room ≡ room
+  room_at at l low e = subst (λ (k : RetiredList). k.room ≡ room) (sym e) (All-get_or (λ (k : RetiredList). k.room ≡ room) lists.items at l (is_low at low) has.roomy)
 
-  items_at : (at : ℕ) (l : PendingList) → at < 4 → l ≡ get_or lists.items at l → items_on (lists_view lists.items) at ≡ l.items
+  items_at : (at : ℕ) (l : RetiredList) → at < 4 → l ≡ get_or lists.items at l → items_on (lists_view lists.items) at ≡ l.items
   items_at at l low e = view_at lists.items at l (is_low at low) e
 
-  room_after : (at : ℕ) (l k : PendingList) (waiting' room' : ℕ) → at < 4 → l ≡ get_or lists.items at l → k.room ≡ l.room → room' ≡ room
+  room_after : (at : ℕ) (l k : RetiredList) (waiting' room' : ℕ) → at < 4 → l ≡ get_or lists.items at l → k.room ≡ l.room → room' ≡ room
       → length (in_a_row (lists_view (slice_set lists.items at k))) + waiting' ≤ room' → ListsHaveRoom (with_item lists at k) waiting' room'
   room_after at l k waiting' room' low e same is fits = record {
     four = has.four;
-    roomy = subst (λ (r : ℕ). All (λ (x : PendingList). x.room ≡ r) (slice_set lists.items at k)) (sym is)
-        (All-set (λ (x : PendingList). x.room ≡ room) lists.items at k (same ∙ room_at at l low e) has.roomy);
+    roomy = subst (λ (r : ℕ). All (λ (x : RetiredList). x.room ≡ r) (slice_set lists.items at k)) (sym is)
+        (All-set (λ (x : RetiredList). x.room ≡ room) lists.items at k (same ∙ room_at at l low e) has.roomy);
     fits = fits;
   }
 
-  pub is_put : (r : Retired) (at : ℕ) (l k : PendingList) → at ≡ r.epoch % 4 → at < 4 → l ≡ get_or lists.items at l → k.items ≡ l.items ++ r ∷ [] → IsPut r (lists_view lists.items) (lists_view (slice_set lists.items at k))
+  pub is_put : (r : Retired) (at : ℕ) (l k : RetiredList) → at ≡ r.epoch % 4 → at < 4 → l ≡ get_or lists.items at l → k.items ≡ l.items ++ r ∷ [] → IsPut r (lists_view lists.items) (lists_view (slice_set lists.items at k))
   is_put r at l k which low e pushed list few = view_set lists.items at k list (is_low at low) ∙ dite (ℕ_discrete list at)
       (λ (same : list ≡ at). ap (λ (b : Bool). cond b k.items (items_on (lists_view lists.items) list)) (eq-eqb list at same)
       ∙ (pushed ∙ (ap (λ (xs : List Retired). xs ++ r ∷ []) (sym (items_at at l low e) ∙ ap (items_on (lists_view lists.items)) (sym same))
@@ -131,28 +131,28 @@ module _ {Z : Type 0} (lists : Vec PendingList Z) (waiting room : ℕ) (has : Li
       ∙ (sym (append-nil (items_on (lists_view lists.items) list))
       ∙ ap (λ (b : Bool). items_on (lists_view lists.items) list ++ cond b (r ∷ []) []) (sym (ne_eqb (r.epoch % 4) list (λ z. other (sym z ∙ sym which))))))
 
-  pub is_emptied : (at : ℕ) (k : PendingList) → at < 4 → k.items ≡ [] → IsEmptied at (lists_view lists.items) (lists_view (slice_set lists.items at k))
+  pub is_emptied : (at : ℕ) (k : RetiredList) → at < 4 → k.items ≡ [] → IsEmptied at (lists_view lists.items) (lists_view (slice_set lists.items at k))
   is_emptied at k low empty other few = view_set lists.items at k other (is_low at low) ∙ ap (λ (xs : List Retired). cond (other == at) xs (items_on (lists_view lists.items) other)) empty
 
   -- a list has room for an item more where all pending items and some more are fewer than there is room for
-  pub has_room : (at : ℕ) (l : PendingList) (more : ℕ) → at < 4 → l ≡ get_or lists.items at l → length (in_a_row (lists_view lists.items)) + more < room → length l.items < l.room
+  pub has_room : (at : ℕ) (l : RetiredList) (more : ℕ) → at < 4 → l ≡ get_or lists.items at l → length (in_a_row (lists_view lists.items)) + more < room → length l.items < l.room
   has_room at l more low e few = let a = room_at at l low e in let b = ap length (items_at at l low e) in let c = one_of_four (lists_view lists.items) at low in omega arith
 
-  pub put_fits : (r : Retired) (at : ℕ) (l k : PendingList) → at ≡ r.epoch % 4 → at < 4 → l ≡ get_or lists.items at l → k ≡ record l { items = l.items ++ r ∷ [] } → length (in_a_row (lists_view lists.items)) + waiting < room
+  pub put_fits : (r : Retired) (at : ℕ) (l k : RetiredList) → at ≡ r.epoch % 4 → at < 4 → l ≡ get_or lists.items at l → k ≡ record l { items = l.items ++ r ∷ [] } → length (in_a_row (lists_view lists.items)) + waiting < room
       → ListsHaveRoom (with_item lists at k) waiting room
-  put_fits r at l k which low e pushed few = let more = put_length r _ _ (is_put r at l k which low e (ap (λ (x : PendingList). x.items) pushed)) in
-      room_after at l k waiting room low e (ap (λ (x : PendingList). x.room) pushed) refl (omega arith)
+  put_fits r at l k which low e pushed few = let more = put_length r (lists_view lists.items) (lists_view (slice_set lists.items at k)) (is_put r at l k which low e (ap (λ (x : RetiredList). x.items) pushed)) in
+      room_after at l k waiting room low e (ap (λ (x : RetiredList). x.room) pushed) refl (omega arith)
 
   -- the items of one list wait
-  module _ (at : ℕ) (l k : PendingList) (low : at < 4) (e : l ≡ get_or lists.items at l) (emptied : k ≡ record l { items = [] }) where
+  module _ (at : ℕ) (l k : RetiredList) (low : at < 4) (e : l ≡ get_or lists.items at l) (emptied : k ≡ record l { items = [] }) where
     pub emptied_total : length l.items + length (in_a_row (lists_view (slice_set lists.items at k))) ≡ length (in_a_row (lists_view lists.items))
-    emptied_total = let a = emptied_length at _ _ low (is_emptied at k low (ap (λ (x : PendingList). x.items) emptied)) in let b = ap length (items_at at l low e) in omega arith
+    emptied_total = let a = emptied_length at (lists_view lists.items) (lists_view (slice_set lists.items at k)) low (is_emptied at k low (ap (λ (x : RetiredList). x.items) emptied)) in let b = ap length (items_at at l low e) in omega arith
 
     pub emptied_fits : (waiting' room' : ℕ) → waiting' ≡ waiting + length l.items → room' ≡ room → ListsHaveRoom (with_item lists at k) waiting' room'
-    emptied_fits waiting' room' more same = let total = emptied_total in let fits = has.fits in room_after at l k waiting' room' low e (ap (λ (x : PendingList). x.room) emptied) same (omega arith)
+    emptied_fits waiting' room' more same = let total = emptied_total in let fits = has.fits in room_after at l k waiting' room' low e (ap (λ (x : RetiredList). x.room) emptied) same (omega arith)
 
 -- lists of which each is empty
-all_empty : (ls : List PendingList) → All (λ (l : PendingList). l.items ≡ []) ls → (list : ℕ) → list < length ls → items_on (lists_view ls) list ≡ []
+all_empty : (ls : List RetiredList) → All (λ (l : RetiredList). l.items ≡ []) ls → (list : ℕ) → list < length ls → items_on (lists_view ls) list ≡ []
 all_empty [] empty list low = absurd (omega arith)
 all_empty (l ∷ ls) empty zero low = empty 0 l (omega arith)
 all_empty (l ∷ ls) empty (suc list) low = all_empty ls (λ k d m. empty (suc k) d (omega arith)) list (omega arith)
@@ -164,7 +164,7 @@ none_in_a_row lists none =
     ∙ (ap (λ (xs : List Retired). xs ++ items_on lists 3) (none 2 (omega arith)) ∙ none 3 (omega arith)))
 
 -- four new lists
-module _ {Z : Type 0} (lists : Vec PendingList Z) (room : ℕ) (four : vec_len lists ≡ 4) (each : All (λ (l : PendingList). (l.room ≡ room) × (l.items ≡ [])) lists.items) where
+module _ {Z : Type 0} (lists : Vec RetiredList Z) (room : ℕ) (four : vec_len lists ≡ 4) (each : All (λ (l : RetiredList). (l.room ≡ room) × (l.items ≡ [])) lists.items) where
   pub none_pending : (list : ℕ) → list < 4 → items_on (lists_view lists.items) list ≡ []
   none_pending list low = all_empty lists.items (λ k d l. (each k d l).1) list (let a = lists.ok.0 in omega arith)
 

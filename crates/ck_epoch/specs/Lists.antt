@@ -43,18 +43,21 @@ pub record Backlog : Type 0 where
   pub room : ℕ
 
 -- One list as it is kept, with room for so many items
-pub record PendingList : Type 0 where
-  pub items : List Retired
+pub record PendingList (P : Type 0) : Type 0 where
+  pub items : List P
   pub room : ℕ
 
+abbrev pub RetiredList : Type 0
+RetiredList = PendingList Retired
+
 -- what contracts see of the lists as they are kept
-abbrev pub lists_view : List PendingList → List (List Retired)
-lists_view lists = map (λ (l : PendingList). l.items) lists
+abbrev pub lists_view : List RetiredList → List (List Retired)
+lists_view lists = map (λ (l : RetiredList). l.items) lists
 
 -- Four lists, each of this room. Their items and so many answers that wait are together no more than that
-pub record ListsHaveRoom {Z : Type 0} (lists : Vec PendingList Z) (waiting room : ℕ) : Type 0 where
+pub record ListsHaveRoom {Z : Type 0} (lists : Vec RetiredList Z) (waiting room : ℕ) : Type 0 where
   pub four : vec_len lists ≡ 4
-  pub roomy : All (λ (l : PendingList). l.room ≡ room) lists.items
+  pub roomy : All (λ (l : RetiredList). l.room ≡ room) lists.items
   pub fits : length (in_a_row (lists_view lists.items)) + waiting ≤ room
 
 -- the handler may be called on each item that the client may retire, and answers its home

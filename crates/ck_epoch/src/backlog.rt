@@ -1,5 +1,5 @@
 //! The items that are pending, and the answers of the handler that wait for the writer. Only `new` takes memory.
-ghost use Rattle.std.specs.Prelude.{◌≡◌, ℕ, ◌+◌, ◌<◌, ◌≤◌, ◌^◌, ◌==◌, cond, [], ◌∷◌, ◌++◌, length, vec_len, IfOk, All, Contains};
+ghost use Rattle.std.specs.Prelude.{◌≡◌, ℕ, ◌+◌, ◌<◌, ◌≤◌, ◌^◌, ◌==◌, cond, [], ◌∷◌, ◌++◌, length, IfOk, Contains};
 ghost use Rattle.std.specs.Option.{MatchOption};
 ghost use Rattle.std.specs.VecDeque.{deque_len, deque_capacity};
 ghost use Rattle.ck_epoch.specs.State.{queue, state};
@@ -9,7 +9,8 @@ use crate::about::About;
 use crate::client::Client;
 use crate::handler::Handler;
 use crate::item::Item;
-use crate::pending::{PendingItem, PendingList};
+use crate::lists::{LISTS, PendingList};
+use crate::pending::PendingItem;
 use ck_run::Token;
 use ck_words::Back;
 use std::alloc::{AllocError, Global};
@@ -22,7 +23,7 @@ use std::marker::Model;
 /// An item stands on the list of its epoch modulo 4. So what a poll dispatches is whole lists, and it touches no other items.
 #[derive(Drop)]
 pub struct Backlog {
-    lists: Vec<PendingList>,
+    lists: Vec<PendingList<PendingItem>>,
     waiting: VecDeque<Back>,
 }
 
@@ -41,7 +42,7 @@ impl Model for Backlog {
 fn dispatch<C: Client, F: Fn(Item) -> Back>(
     client: &C,
     token: &Token<About<C>>,
-    list: &mut PendingList,
+    list: &mut PendingList<PendingItem>,
     handler: &Handler<F>,
     waiting: &mut VecDeque<Back>,
 )
@@ -59,28 +60,13 @@ fn dispatch<C: Client, F: Fn(Item) -> Back>(
     }
 }
 
-// How many lists of pending items there are: an item stands on that of its epoch modulo so many.
-const LISTS: usize = 4;
-
-// Four empty lists, each with room for so many items.
-fn empty_lists(alloc: Global, room: usize) -> Result<Vec<PendingList>, AllocError>
-    ensures count { IfOk result (λ lists. vec_len lists ≡ 4) }
-    ensures each { IfOk result (λ lists. All (λ l. (l.room ≡ room) × (l.items ≡ [])) lists.items) }
-{
-    let mut lists = Vec::with_capacity(alloc, LISTS)?;
-    for _i in 0..LISTS {
-        lists.push_reserved(PendingList::new(alloc, room)?);
-    }
-    Ok(lists)
-}
-
 impl Backlog {
     /// Room for so many items that are pending and answers that wait. They may all stand on one list.
     pub(crate) fn new(alloc: Global, room: usize) -> Result<Backlog, AllocError>
         ensures lists { IfOk result (λ b. (list : ℕ) → list < 4 → items_on b.lists list ≡ []) }
         ensures rest { IfOk result (λ b. (b.waiting ≡ []) × (b.room ≡ room)) }
     {
-        let lists = empty_lists(alloc, room)?;
+        let lists = PendingList::four(alloc, room)?;
         let waiting = VecDeque::with_capacity(alloc, room)?;
         Ok(Backlog { lists, waiting })
     }

@@ -1,64 +1,14 @@
 //! The items that are pending, and those that were dispatched and wait for `next_item`. Only `new` takes memory.
-ghost use Rattle.std.specs.Prelude.{◌≡◌, ℕ, ◌+◌, ◌<◌, ◌≤◌, ◌^◌, ◌==◌, cond, [], ◌∷◌, ◌++◌, length, vec_len, IfOk, All};
+ghost use Rattle.std.specs.Prelude.{◌≡◌, ℕ, ◌+◌, ◌<◌, ◌≤◌, ◌^◌, ◌==◌, cond, [], ◌∷◌, ◌++◌, length, IfOk};
 ghost use Rattle.std.specs.Option.{MatchOption};
 ghost use Rattle.std.specs.VecDeque.{deque_len, deque_capacity};
 ghost use Rattle.ck_epoch.specs.Lists.{on, items_on, in_a_row};
 ghost use Rattle.ck_registry.specs.Deferred.{items_of};
 
-use ck_epoch::{Item, Retired};
+use ck_epoch::{Item, LISTS, PendingList, Retired};
 use std::alloc::{AllocError, Global};
 use std::collections::VecDeque;
 use std::marker::Model;
-
-/// A list of pending items, in order of retirement, with room for so many.
-#[derive(Drop)]
-pub struct PendingList {
-    items: VecDeque<Retired>,
-}
-
-impl Model for PendingList {
-    ghost use Rattle.std.specs.VecDeque.{deque_capacity};
-    ghost use Rattle.ck_epoch.specs.Lists.{PendingList as PendingListOf};
-
-    ghost Value = { PendingListOf };
-
-    ghost view = { λ l. record { items = l.items.items; room = deque_capacity l.items } };
-
-    ghost invariant = { λ l. Unit {0} };
-}
-
-impl PendingList {
-    fn new(alloc: Global, room: usize) -> Result<PendingList, AllocError>
-        ensures { IfOk result (λ l. l ≡ record { items = []; room = room }) }
-    {
-        let items = VecDeque::with_capacity(alloc, room)?;
-        Ok(PendingList { items })
-    }
-
-    // How many items it has.
-    fn len(&self) -> usize
-        ensures { result ≡ length self.now.items }
-    {
-        self.items.len()
-    }
-
-    // Puts an item behind the others.
-    fn push(&mut self, retired: Retired)
-        requires { length self.old.items < self.old.room }
-        ensures { self.new ≡ record self.old { items = self.old.items ++ retired ∷ [] } }
-    {
-        self.items.push_back_reserved(retired);
-    }
-
-    // Takes the item that was retired first.
-    fn pop(&mut self) -> Retired
-        requires some { 0 < length self.old.items }
-        ensures first { self.old.items ≡ result ∷ self.new.items }
-        ensures room { self.new.room ≡ self.old.room }
-    {
-        self.items.pop_front().unwrap()
-    }
-}
 
 /// What a visitor has retired and not yet handed out. Contracts see the four lists of items that are pending, each in order of retirement,
 /// the items that wait, and how many of both there is room for.
@@ -66,7 +16,7 @@ impl PendingList {
 /// An item stands on the list of its epoch modulo 4. So what a scan or an advance dispatches is whole lists, and it touches no other items.
 #[derive(Drop)]
 pub struct Deferred {
-    lists: Vec<PendingList>,
+    lists: Vec<PendingList<Retired>>,
     waiting: VecDeque<Item>,
 }
 
@@ -83,7 +33,7 @@ impl Model for Deferred {
 }
 
 // Takes the items of a list out, in order of retirement, and lets them wait.
-fn dispatch(list: &mut PendingList, waiting: &mut VecDeque<Item>)
+fn dispatch(list: &mut PendingList<Retired>, waiting: &mut VecDeque<Item>)
     requires room { deque_len waiting.old + length list.old.items ≤ deque_capacity waiting.old }
     ensures list { list.new ≡ record list.old { items = [] } }
     ensures waiting { waiting.new.items ≡ waiting.old.items ++ items_of list.old.items }
@@ -96,28 +46,13 @@ fn dispatch(list: &mut PendingList, waiting: &mut VecDeque<Item>)
     }
 }
 
-// How many lists of pending items there are: an item stands on that of its epoch modulo so many.
-const LISTS: usize = 4;
-
-// Four empty lists, each with room for so many items.
-fn empty_lists(alloc: Global, room: usize) -> Result<Vec<PendingList>, AllocError>
-    ensures count { IfOk result (λ lists. vec_len lists ≡ 4) }
-    ensures each { IfOk result (λ lists. All (λ l. (l.room ≡ room) × (l.items ≡ [])) lists.items) }
-{
-    let mut lists = Vec::with_capacity(alloc, LISTS)?;
-    for _i in 0..LISTS {
-        lists.push_reserved(PendingList::new(alloc, room)?);
-    }
-    Ok(lists)
-}
-
 impl Deferred {
     /// Room for so many items that are pending or wait. They may all stand on one list.
     pub(crate) fn new(alloc: Global, room: usize) -> Result<Deferred, AllocError>
         ensures lists { IfOk result (λ d. (list : ℕ) → list < 4 → items_on d.lists list ≡ []) }
         ensures rest { IfOk result (λ d. (d.waiting ≡ []) × (d.room ≡ room)) }
     {
-        let lists = empty_lists(alloc, room)?;
+        let lists = PendingList::four(alloc, room)?;
         let waiting = VecDeque::with_capacity(alloc, room)?;
         Ok(Deferred { lists, waiting })
     }

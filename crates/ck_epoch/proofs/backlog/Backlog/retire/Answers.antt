@@ -1,7 +1,7 @@
-use Rattle.std.proofs.Common.{◌≡◌, ◌+◌, ◌<◌, ◌%◌, [], ◌∷◌, ◌++◌, ap, ◌∙◌, length, slice_set, refl, sym, subst, arith}
+use Rattle.std.proofs.Common.{◌+◌, ◌<◌, ◌%◌, [], ◌∷◌, ◌++◌, ap, ◌∙◌, length, slice_set, refl, sym, subst, arith}
 use Rattle.std.specs.VecDeque.{deque_len, deque_capacity}
 use Rattle.ck_epoch.specs.declared.item.Retired.{Retired}
-use Rattle.ck_epoch.specs.Lists.{Backlog, PendingList, in_a_row, lists_view}
+use Rattle.ck_epoch.specs.Lists.{Backlog, RetiredList, in_a_row, lists_view}
 use Rattle.ck_epoch.proofs.Emptying.{IsPut, is_put, has_room, put_fits}
 use Rattle.ck_epoch.proofs.backlog.Backlog.retire.Goals as goal
 
@@ -27,4 +27,4 @@ returns-clause-lists g c =
     let r : Retired = record { item = c.args.item; epoch = c.args.epoch } in
     let low : at < 4 = omega arith in
     subst (λ (v : Backlog). IsPut r v.lists (lists_view (slice_set b.lists.items at c.push.new.self))) c.self.view_is
-    (is_put b.lists (deque_len b.waiting) (deque_capacity b.waiting) c.self.invariant r at c.index_mut.result.now c.push.new.self refl low c.index_mut.ensures.value (ap (λ (l : PendingList). l.items) (c.push.ensures ∙ ap (λ (r : Retired). record c.index_mut.result.now { items = c.index_mut.result.now.items ++ r ∷ [] }) c.new-pending.ensures)))
+    (is_put b.lists (deque_len b.waiting) (deque_capacity b.waiting) c.self.invariant r at c.index_mut.result.now c.push.new.self refl low c.index_mut.ensures.value (ap (λ (l : RetiredList). l.items) (c.push.ensures ∙ ap (λ (r : Retired). record c.index_mut.result.now { items = c.index_mut.result.now.items ++ r ∷ [] }) c.new-pending.ensures)))
