@@ -1,9 +1,6 @@
 -- The steps of a poll.
-use Rattle.std.proofs.Common.{◌≡◌, ◌≢◌, ℕ, ◌+◌, ◌-◌, ◌%◌, ◌<◌, ◌≤◌, ◌^◌, inl, inr, Bool, true, false, ◌&&◌, cond, ◌==◌, eq-eqb, ne_eqb, Option, Some, None, List, [], ◌∷◌, ◌++◌, map, length, length-append, refl, sym, ap, ◌∙◌, subst, arith}
-use Rattle.std.specs.Option.{unwrap_or}
-use Rattle.std.proofs.lemmas.List.{append_assoc, map-append, append-nil}
-use Rattle.std.proofs.lemmas.List.Elements.{All-push, All-nil, All-append, All-cons}
-use Rattle.ck_run.specs.declared.account.Step.{Step}
+use Rattle.std.proofs.Common.{◌≡◌, ◌≢◌, ℕ, ◌+◌, ◌-◌, ◌%◌, ◌<◌, ◌≤◌, ◌^◌, inl, inr, Bool, true, false, ◌&&◌, cond, ◌==◌, eq-eqb, ne_eqb, Option, Some, None, List, [], ◌∷◌, ◌++◌, refl, sym, ap, ◌∙◌, subst, arith}
+use Rattle.std.proofs.lemmas.List.Elements.{All-nil}
 use Rattle.ck_run.specs.declared.account.Step.TheVariants.{Load, Exchange}
 use Rattle.ck_run.specs.declared.account.Entry.{Entry}
 use Rattle.ck_run.specs.Run.{entry, further, call}
@@ -14,10 +11,10 @@ use Rattle.ck_epoch.specs.declared.about.About.{About}
 use Rattle.ck_epoch.specs.State.{Origin, Token, TokenState, Stage, polling, free, scanning, comparing, records_of, active_word, epoch_word, Retirement, on_list, off_list, list_by_list, dispatch, dispatch_all, first_busy, is_clear, poll, state}
 use Rattle.ck_epoch.specs.Client.{Client, Passes, program}
 use Rattle.ck_epoch.specs.Ends.{IsWriting}
-use Rattle.ck_epoch.specs.Calls.{RecordLook, look_steps, scan_steps, AreInactive, AreCurrent}
-use Rattle.ck_epoch.specs.Scan.{IsFirstFound, is_done, first_dispatch, IsScanning, Did}
+use Rattle.ck_epoch.specs.Calls.{RecordLook, scan_steps}
+use Rattle.ck_epoch.specs.Scan.{is_done, first_dispatch, IsScanning, Did}
 use Rattle.ck_epoch.proofs.Stepping.{Steps, may_at, state_at_step, writer_holds, writer_loads, writer_finds, opened}
-use Rattle.ck_epoch.proofs.Looks.{scan_more, call_more, found_inactive, found_current, are_current}
+use Rattle.ck_epoch.proofs.Looks.{call_more, one_more, inactive_steps, active_steps, found_inactive, found_current, are_current}
 use Rattle.ck_epoch.proofs.Retirements.{lt_first}
 
 -- the fields of a state that is one of two
@@ -122,17 +119,6 @@ module _ {C : Type 0} (client : Client C) (passes : Passes client) where
     may_see w n is = let z = same_records in let l = low in
         may_at client passes u [] (Load w n) (scanning polling e rec busy) at.part (omega arith) at_record (is, subst (λ (k : ℕ). rec < k) (sym same_records) low, (refl, refl))
 
-    -- after one record more
-    did_more : (v : Token C) (l : RecordLook) (ts : List Step) → v ≡ adding t (call poll [] (Load 0 e ∷ scan_steps 0 at.looked) ++ map further ts) → ts ≡ look_steps rec l
-        → v ≡ adding t (call poll [] (Load 0 e ∷ scan_steps 0 (at.looked ++ l ∷ [])))
-    did_more v l ts h is = h ∙ ap (adding t)
-        (call_more poll [] (Load 0 e) (scan_steps 0 at.looked) ts
-        ∙ ap (λ (ss : List Step). call poll [] (Load 0 e ∷ ss))
-        (ap (λ (k : List Step). scan_steps 0 at.looked ++ k) (is ∙ ap (λ (k : ℕ). look_steps k l) (let c = at.count in omega arith)) ∙ sym (scan_more 0 at.looked l)))
-
-    one_more : (l : RecordLook) → length (at.looked ++ l ∷ []) ≡ rec + 1
-    one_more l = length-append at.looked (l ∷ []) ∙ ap (λ (k : ℕ). k + 1) at.count
-
     module _ (v : Token C) (w n : ℕ) (w_is : w ≡ active_word rec) (made : Steps client u (further (Load w n)) v) where
       seen_state : (b : Bool) → (n == 0) ≡ b
           → state v ≡ record (cond b (either (state u) (scanning polling e (rec + 1) busy) (is_done S (rec + 1) busy)) (record (state u) { stage = comparing polling e rec busy })) { steps = (state u).steps + 1 }
@@ -142,10 +128,6 @@ module _ {C : Type 0} (client : Client C) (passes : Passes client) where
 
       seen_number : number v ≡ 0
       seen_number = number_stays (program client) u v (further (Load w n)) made ∙ at.first
-
-      seen : v ≡ adding t (call poll [] (Load 0 e ∷ scan_steps 0 at.looked) ++ further (Load (active_word rec) n) ∷ [])
-      seen = adds_one (program client) t u v (call poll [] (Load 0 e ∷ scan_steps 0 at.looked)) (further (Load w n)) at.steps made
-          ∙ ap (λ (k : ℕ). adding t (call poll [] (Load 0 e ∷ scan_steps 0 at.looked) ++ further (Load k n) ∷ [])) w_is
 
       pub inactive : n ≡ 0 → IsScanning client t v e (rec + 1) busy
       inactive none =
@@ -157,9 +139,9 @@ module _ {C : Type 0} (client : Client C) (passes : Passes client) where
             part = made.1;
             first = seen_number;
             looked = at.looked ++ l ∷ [];
-            count = one_more l;
+            count = one_more rec at.looked l at.count;
             found = found_inactive e at.looked busy l none at.found;
-            steps = did_more v l (Load (active_word rec) n ∷ []) seen (sym (ap (λ (c : Bool). Load (active_word rec) n ∷ cond c [] (Load (epoch_word rec) 0 ∷ [])) (eq-eqb n 0 none)));
+            steps = inactive_steps (program client) t u poll e rec at.looked at.count at.steps v w n w_is made none;
             stage = ap (λ (x : TokenState). x.stage) s ∙ either_stage (state u) g b;
             calls = ap (λ (x : TokenState). x.calls) s ∙ (either_calls (state u) g b ∙ at.calls);
             epoch = (at.epoch.0, ap (λ (x : TokenState). x.epoch) s ∙ (either_epoch (state u) g b ∙ at.epoch.1));
@@ -199,11 +181,7 @@ module _ {C : Type 0} (client : Client C) (passes : Passes client) where
           l = record { active = n; epoch = m }
 
           compared_steps : z ≡ adding t (call poll [] (Load 0 e ∷ scan_steps 0 (at.looked ++ l ∷ [])))
-          compared_steps = did_more z l (Load (active_word rec) n ∷ Load (epoch_word rec) m ∷ [])
-              (adds_one (program client) t v z (call poll [] (Load 0 e ∷ scan_steps 0 at.looked) ++ further (Load (active_word rec) n) ∷ []) (further (Load x m)) seen compared
-              ∙ ap (adding t) (append_assoc (call poll [] (Load 0 e ∷ scan_steps 0 at.looked)) (further (Load (active_word rec) n) ∷ []) (further (Load x m) ∷ [])
-              ∙ ap (λ (k : ℕ). call poll [] (Load 0 e ∷ scan_steps 0 at.looked) ++ further (Load (active_word rec) n) ∷ further (Load k m) ∷ []) x_is))
-              (sym (ap (λ (c : Bool). Load (active_word rec) n ∷ cond c [] (Load (epoch_word rec) m ∷ [])) (ne_eqb n 0 active)))
+          compared_steps = active_steps (program client) t u poll e rec at.looked at.count at.steps v w n w_is made active z x m x_is compared
 
           pub current : m ≡ e → IsScanning client t z e (rec + 1) busier
           current is =
@@ -215,9 +193,8 @@ module _ {C : Type 0} (client : Client C) (passes : Passes client) where
                 part = compared.1;
                 first = compared_number;
                 looked = at.looked ++ l ∷ [];
-                count = one_more l;
-                found = subst (λ (k : ℕ). IsFirstFound e (at.looked ++ record { active = n; epoch = k } ∷ []) busier) (sym is)
-                    (subst (λ (k : ℕ). IsFirstFound e (at.looked ++ record { active = n; epoch = e } ∷ []) (first_busy busy k)) at.count (found_current e n at.looked busy active at.found));
+                count = one_more rec at.looked l at.count;
+                found = found_current e n m rec at.looked busy active is at.count at.found;
                 steps = compared_steps;
                 stage = ap (λ (y : TokenState). y.stage) s ∙ either_stage (state v) g b;
                 calls = ap (λ (y : TokenState). y.calls) s ∙ (either_calls (state v) g b ∙ (ap (λ (y : TokenState). y.calls) c ∙ at.calls));
@@ -316,11 +293,6 @@ module _ {C : Type 0} (client : Client C) (passes : Passes client) where
 -- a record of the domain is one of the token's
 pub low_record : {C : Type 0} (client : Client C) (t u : Token C) (e rec : ℕ) (busy : Option ℕ) (now : Table (About C)) → IsScanning client t u e rec busy → table u ≡ now → rec < records_of now.origin → rec < records_of (origin t)
 low_record client t u e rec busy now at is low = subst (λ (o : Origin _). rec < records_of o) (sym (ap (λ (x : Table (About _)). x.origin) is) ∙ ap origin at.steps) low
-
--- the first record that was active, after one more
-pub first_is : (busy : Option ℕ) (rec : ℕ) → first_busy busy rec ≡ Some (unwrap_or busy rec)
-first_is None rec = refl
-first_is (Some r) rec = refl
 
 -- after the last record
 pub end_record : {C : Type 0} (client : Client C) (t u : Token C) (e rec : ℕ) (busy : Option ℕ) (d now : Table (About C)) (about : About C) → IsScanning client t u e rec busy → table u ≡ now → d ≡ now

@@ -1,19 +1,14 @@
 -- The steps of a scan.
-use Rattle.std.proofs.Common.{◌≡◌, ◌≢◌, ℕ, ◌+◌, ◌<◌, ◌≤◌, ◌^◌, inr, Bool, true, false, cond, ◌==◌, eq-eqb, ne_eqb, Option, Some, None, List, [], ◌∷◌, ◌++◌, map, length, length-append, refl, sym, ap, ◌∙◌, subst, arith}
-use Rattle.std.specs.Option.{unwrap_or}
-use Rattle.std.proofs.lemmas.List.{append_assoc}
+use Rattle.std.proofs.Common.{◌≡◌, ◌≢◌, ℕ, ◌+◌, ◌<◌, ◌≤◌, ◌^◌, inr, Bool, true, false, cond, ◌==◌, eq-eqb, ne_eqb, Option, Some, None, [], ◌∷◌, ◌++◌, refl, sym, ap, ◌∙◌, subst, arith}
 use Rattle.std.proofs.lemmas.List.Elements.{All-nil}
-use Rattle.ck_run.specs.declared.account.Step.{Step}
 use Rattle.ck_run.specs.declared.account.Step.TheVariants.{Load}
 use Rattle.ck_run.specs.declared.account.Entry.{Entry}
 use Rattle.ck_run.specs.Run.{entry, further, call}
 use Rattle.ck_run.specs.Machine.{follows_of}
 use Rattle.ck_run.specs.Tokens.{Table, table, adding, number, origin, MayMake}
-use Rattle.ck_run.proofs.Moments.{adds_one}
 use Rattle.ck_epoch.specs.State.{active_word, epoch_word, first_busy}
-use Rattle.ck_epoch.specs.Calls.{RecordLook, look_steps, scan_steps}
-use Rattle.ck_epoch.specs.Scan.{IsFirstFound}
-use Rattle.ck_epoch.proofs.Looks.{scan_more, call_more, found_inactive, found_current, are_current}
+use Rattle.ck_epoch.specs.Calls.{RecordLook, scan_steps}
+use Rattle.ck_epoch.proofs.Looks.{one_more, inactive_steps, active_steps, found_inactive, found_current, are_current}
 use Rattle.ck_registry.specs.declared.answers.Finding.TheVariants.{AllInactive, AllCurrent, OneBehind}
 use Rattle.ck_registry.specs.State.{Origin, Token, TokenState, Activity, resting, passing, checking, after_scan, scan, records_of, registry, state}
 use Rattle.ck_registry.specs.Ends.{IsHolder}
@@ -94,27 +89,12 @@ module _ (t u : Token) (e rec : ℕ) (busy : Option ℕ) (at : HasLookedAt t u e
   pub may_see : (w n : ℕ) → w ≡ active_word rec → MayMake (follows_of registry) u (further (Load w n))
   may_see w n is = may_go t u here at_record (further (Load w n)) number_low (is, low, (refl, refl))
 
-  -- after one record more
-  did_more : (v : Token) (l : RecordLook) (ts : List Step) → v ≡ adding t (call scan [] (Load 0 e ∷ scan_steps 0 at.looked) ++ map further ts) → ts ≡ look_steps rec l
-      → v ≡ adding t (call scan [] (Load 0 e ∷ scan_steps 0 (at.looked ++ l ∷ [])))
-  did_more v l ts h is = h ∙ ap (adding t)
-      (call_more scan [] (Load 0 e) (scan_steps 0 at.looked) ts
-      ∙ ap (λ (ss : List Step). call scan [] (Load 0 e ∷ ss))
-      (ap (λ (k : List Step). scan_steps 0 at.looked ++ k) (is ∙ ap (λ (k : ℕ). look_steps k l) (let c = at.count in omega arith)) ∙ sym (scan_more 0 at.looked l)))
-
-  one_more : (l : RecordLook) → length (at.looked ++ l ∷ []) ≡ rec + 1
-  one_more l = length-append at.looked (l ∷ []) ∙ ap (λ (k : ℕ). k + 1) at.count
-
   module _ (v : Token) (w n : ℕ) (w_is : w ≡ active_word rec) (made : Steps u (further (Load w n)) v) where
     seen_state : (x : Bool) → (n == 0) ≡ x
         → Went t v (record (cond x (scanned S here e (rec + 1) busy) (record here { activity = checking e rec busy })) { steps = at.made + 1 })
     seen_state x test = went_as t v _ (record (cond x (scanned S here e (rec + 1) busy) (record here { activity = checking e rec busy })) { steps = at.made + 1 })
         (goes t u here at_record v (further (Load w n)) made)
         (ap (λ (y : Bool). record (cond y (scanned S here e (rec + 1) busy) (record here { activity = checking e rec busy })) { steps = at.made + 1 }) test)
-
-    seen : v ≡ adding t (call scan [] (Load 0 e ∷ scan_steps 0 at.looked) ++ further (Load (active_word rec) n) ∷ [])
-    seen = adds_one (follows_of registry) t u v (call scan [] (Load 0 e ∷ scan_steps 0 at.looked)) (further (Load w n)) at.steps made
-        ∙ ap (λ (k : ℕ). adding t (call scan [] (Load 0 e ∷ scan_steps 0 at.looked) ++ further (Load k n) ∷ [])) w_is
 
     pub inactive : n ≡ 0 → HasLookedAt t v e (rec + 1) busy
     inactive none =
@@ -125,9 +105,9 @@ module _ (t u : Token) (e rec : ℕ) (busy : Option ℕ) (at : HasLookedAt t u e
           made = at.made + 1;
           at = (went_as t v _ (record (scanned S b e (rec + 1) busy) { steps = at.made + 1 }) s (scanned_as b (passing e rec busy) at.made (at.made + 1) e (rec + 1) busy (rec + 1 == S))).at;
           looked = at.looked ++ l ∷ [];
-          count = one_more l;
+          count = one_more rec at.looked l at.count;
           found = found_inactive e at.looked busy l none at.found;
-          steps = did_more v l (Load (active_word rec) n ∷ []) seen (sym (ap (λ (c : Bool). Load (active_word rec) n ∷ cond c [] (Load (epoch_word rec) 0 ∷ [])) (eq-eqb n 0 none)));
+          steps = inactive_steps (follows_of registry) t u scan e rec at.looked at.count at.steps v w n w_is made none;
         }
 
     -- it is active
@@ -155,11 +135,7 @@ module _ (t u : Token) (e rec : ℕ) (busy : Option ℕ) (at : HasLookedAt t u e
         l = record { active = n; epoch = m }
 
         compared_steps : z ≡ adding t (call scan [] (Load 0 e ∷ scan_steps 0 (at.looked ++ l ∷ [])))
-        compared_steps = did_more z l (Load (active_word rec) n ∷ Load (epoch_word rec) m ∷ [])
-            (adds_one (follows_of registry) t v z (call scan [] (Load 0 e ∷ scan_steps 0 at.looked) ++ further (Load (active_word rec) n) ∷ []) (further (Load x m)) seen compared
-            ∙ ap (adding t) (append_assoc (call scan [] (Load 0 e ∷ scan_steps 0 at.looked)) (further (Load (active_word rec) n) ∷ []) (further (Load x m) ∷ [])
-            ∙ ap (λ (k : ℕ). call scan [] (Load 0 e ∷ scan_steps 0 at.looked) ++ further (Load (active_word rec) n) ∷ further (Load k m) ∷ []) x_is))
-            (sym (ap (λ (c : Bool). Load (active_word rec) n ∷ cond c [] (Load (epoch_word rec) m ∷ [])) (ne_eqb n 0 active)))
+        compared_steps = active_steps (follows_of registry) t u scan e rec at.looked at.count at.steps v w n w_is made active z x m x_is compared
 
         pub current : m ≡ e → HasLookedAt t z e (rec + 1) busier
         current is = let s = compared_state true (eq-eqb m e is) in record {
@@ -168,9 +144,8 @@ module _ (t u : Token) (e rec : ℕ) (busy : Option ℕ) (at : HasLookedAt t u e
           at = (went_as t z _ (record (scanned S b e (rec + 1) busier) { steps = at.made + 1 + 1 }) s
               (scanned_as b (checking e rec busy) (at.made + 1) (at.made + 1 + 1) e (rec + 1) busier (rec + 1 == S))).at;
           looked = at.looked ++ l ∷ [];
-          count = one_more l;
-          found = subst (λ (k : ℕ). IsFirstFound e (at.looked ++ record { active = n; epoch = k } ∷ []) busier) (sym is)
-              (subst (λ (k : ℕ). IsFirstFound e (at.looked ++ record { active = n; epoch = e } ∷ []) (first_busy busy k)) at.count (found_current e n at.looked busy active at.found));
+          count = one_more rec at.looked l at.count;
+          found = found_current e n m rec at.looked busy active is at.count at.found;
           steps = compared_steps;
         }
 
@@ -209,11 +184,6 @@ module _ (t u : Token) (e : ℕ) where
 -- a record of the registry is one of the token's
 pub low_record : (t u : Token) (e rec : ℕ) (busy : Option ℕ) (now : Table ℕ) → HasLookedAt t u e rec busy → table u ≡ now → rec < records_of now.origin → rec < records_of (origin t)
 low_record t u e rec busy now at is low = subst (λ (o : Origin). rec < records_of o) (sym (ap (λ (x : Table ℕ). x.origin) is) ∙ ap origin at.steps) low
-
--- the first record that was active, after one more
-pub first_is : (busy : Option ℕ) (rec : ℕ) → first_busy busy rec ≡ Some (unwrap_or busy rec)
-first_is None rec = refl
-first_is (Some r) rec = refl
 
 -- after the last record
 pub end_record : (t u : Token) (e rec records : ℕ) (busy : Option ℕ) (d now : Table ℕ) → HasLookedAt t u e rec busy → table u ≡ now → d ≡ now → d.origin.config ≡ records → rec ≡ records

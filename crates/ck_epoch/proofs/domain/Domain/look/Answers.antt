@@ -1,6 +1,7 @@
 use Rattle.std.proofs.Common.{ℕ, ◌+◌, Some, sym, ap, ◌∙◌, subst}
 use Rattle.ck_epoch.specs.Scan.{IsScanning}
-use Rattle.ck_epoch.proofs.Polling.{low_record, first_is, may_see, inactive, may_compare, current, behind}
+use Rattle.ck_epoch.proofs.Looks.{first_is}
+use Rattle.ck_epoch.proofs.Polling.{low_record, may_see, inactive, may_compare, current, behind}
 use Rattle.ck_epoch.proofs.domain.Domain.look.Goals as goal
 
 pub load-active-requires-clause-may : goal.load-active-requires-clause-may

@@ -1,6 +1,7 @@
 use Rattle.std.proofs.Common.{ℕ, ◌+◌, Some, sym, ap, ◌∙◌, subst}
 use Rattle.ck_registry.specs.Scan.{HasLookedAt}
-use Rattle.ck_registry.proofs.ScanSteps.{low_record, first_is, may_see, inactive, may_compare, current, behind}
+use Rattle.ck_epoch.proofs.Looks.{first_is}
+use Rattle.ck_registry.proofs.ScanSteps.{low_record, may_see, inactive, may_compare, current, behind}
 use Rattle.ck_registry.proofs.registry.Registry.look.Goals as goal
 
 pub load-active-requires-clause-may : goal.load-active-requires-clause-may
