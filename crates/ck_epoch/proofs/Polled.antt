@@ -12,14 +12,14 @@ use Rattle.ck_epoch.specs.State.{Token, TokenState, Retirement, on_list, off_lis
 use Rattle.ck_epoch.specs.Lists.{Backlog, is_on, on, off, by_list, homes, AreListsOf, AreRetired}
 use Rattle.ck_epoch.specs.Client.{Client}
 use Rattle.ck_epoch.specs.Ends.{Writer, IsWriter}
-use Rattle.ck_epoch.specs.Calls.{dispatched_items}
+use Rattle.ck_epoch.specs.Calls.{dispatched_items, pending_after}
 use Rattle.ck_epoch.specs.Scan.{first_dispatch, IsDone}
 use Rattle.ck_epoch.proofs.FourLists.{on_gone, queue_off, queue_on, queue_by_list, queue_behind}
 use Rattle.ck_epoch.proofs.Emptying.{IsEmptied, lists_off}
 
--- the token's domain is the one that keeps this
-pub config_is : {C : Type 0} (t : Token C) (d now : Table (About C)) (about : About C) → table t ≡ now → d ≡ now → d.origin.config ≡ about → (origin t).config ≡ about
-config_is t d now about same keeps told = ap (λ (x : Table (About _)). x.origin.config) (same ∙ sym keeps) ∙ told
+-- the writer's domain is the one that keeps this
+pub config_is : {C F : Type 0} {w v : Writer C F} {d now : Table (About C)} {about : About C} → w ≡ v → table v.token ≡ now → d ≡ now → d.origin.config ≡ about → (origin w.token).config ≡ about
+config_is view same keeps told = ap (λ (u : Writer _ _). (origin u.token).config) view ∙ (ap (λ (x : Table (About _)). x.origin.config) (same ∙ sym keeps) ∙ told)
 
 module _ {C : Type 0} (client : Client C) (t : Token C) (b : Backlog) (inv : IsWriter client t b) (about : About C) (config : (origin t).config ≡ about) where
   abbrev pub retires : Item → Bool
@@ -96,17 +96,23 @@ module _ (e : ℕ) (s : TokenState) where
   gone_all = gone_more (list_by_list (off_list first_list s.pending)) (by_list (off first_list (queue s.pending)))
       (queue_by_list (off_list first_list s.pending) ∙ ap by_list (queue_off first_list s.pending))
 
--- The same told of the writer and of the domain as contracts see them
-module _ {C F : Type 0} (client : Client C) (about : About C) (d now : Table (About C)) (keeps : d ≡ now) (told : d.origin.config ≡ about) (v : Writer C F) (t : Token C) (waiting : List Back) (e : ℕ) (epoch : (state t).epoch ≡ e) (p : Poll) where
-  about_is : about ≡ now.origin.config
-  about_is = sym told ∙ ap (λ (x : Table (About C)). x.origin.config) keeps
+-- The same told of the writer as contracts see it
+module _ {C F : Type 0} {w v : Writer C F} (view : w ≡ v) {e : ℕ} (epoch : (state w.token).epoch ≡ e) (p : Poll) where
+  seen : {X : Type 0} (G : ℕ → Writer C F → X) → G e w ≡ G (state v.token).epoch v
+  seen G = ap (λ (k : ℕ). G k w) (sym epoch) ∙ ap (λ (u : Writer C F). G (state u.token).epoch u) view
 
-  pub told_waiting : (calls room tally : ℕ) (handler : F) → ◌≡◌ {A = Writer C F} (record { token = t; calls = calls; waiting = waiting; room = room; handler = handler; tally = tally }) v
-      → (after : List Back) → after ≡ waiting ++ homes (client.home about.client) (dispatched_items e p (queue (state t).pending)) → after ≡ v.waiting ++ homes (client.home now.origin.config.client) (dispatched_items (state v.token).epoch p (queue (state v.token).pending))
-  told_waiting calls room tally handler view after is = is
-      ∙ (ap (λ (n : ℕ). waiting ++ homes (client.home about.client) (dispatched_items n p (queue (state t).pending))) (sym epoch)
-      ∙ (ap (λ (a : About C). waiting ++ homes (client.home a.client) (dispatched_items (state t).epoch p (queue (state t).pending))) about_is
-      ∙ ap (λ (w : Writer C F). w.waiting ++ homes (client.home now.origin.config.client) (dispatched_items (state w.token).epoch p (queue (state w.token).pending))) view))
+  pub told_pending : (rs : List Retired) → rs ≡ pending_after e p (queue (state w.token).pending) → rs ≡ pending_after (state v.token).epoch p (queue (state v.token).pending)
+  told_pending rs is = is ∙ seen (λ (k : ℕ) (u : Writer C F). pending_after k p (queue (state u.token).pending))
 
-  pub told_count : (v.token ≡ t) → (n : ℕ) → n ≡ length (dispatched_items e p (queue (state t).pending)) → n ≡ length (dispatched_items (state v.token).epoch p (queue (state v.token).pending))
-  told_count same n is = is ∙ (ap (λ (k : ℕ). length (dispatched_items k p (queue (state t).pending))) (sym epoch) ∙ ap (λ (u : Token C). length (dispatched_items (state u).epoch p (queue (state u).pending))) (sym same))
+  pub told_dispatched : (rs : List Retired) → rs ≡ queue (state w.token).dispatched ++ dispatched_items e p (queue (state w.token).pending) → rs ≡ queue (state v.token).dispatched ++ dispatched_items (state v.token).epoch p (queue (state v.token).pending)
+  told_dispatched rs is = is ∙ seen (λ (k : ℕ) (u : Writer C F). queue (state u.token).dispatched ++ dispatched_items k p (queue (state u.token).pending))
+
+  pub told_count : (n : ℕ) → n ≡ length (dispatched_items e p (queue (state w.token).pending)) → n ≡ length (dispatched_items (state v.token).epoch p (queue (state v.token).pending))
+  told_count n is = is ∙ seen (λ (k : ℕ) (u : Writer C F). length (dispatched_items k p (queue (state u.token).pending)))
+
+  -- and of the domain
+  pub told_waiting : (client : Client C) (about : About C) (d now : Table (About C)) → d ≡ now → d.origin.config ≡ about → (bs : List Back) → bs ≡ w.waiting ++ homes (client.home about.client) (dispatched_items e p (queue (state w.token).pending))
+      → bs ≡ v.waiting ++ homes (client.home now.origin.config.client) (dispatched_items (state v.token).epoch p (queue (state v.token).pending))
+  told_waiting client about d now keeps told bs is = is
+      ∙ (ap (λ (a : About C). w.waiting ++ homes (client.home a.client) (dispatched_items e p (queue (state w.token).pending))) (sym told ∙ ap (λ (x : Table (About C)). x.origin.config) keeps)
+      ∙ seen (λ (k : ℕ) (u : Writer C F). u.waiting ++ homes (client.home now.origin.config.client) (dispatched_items k p (queue (state u.token).pending))))

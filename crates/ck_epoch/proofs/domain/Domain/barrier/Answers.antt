@@ -5,7 +5,6 @@ use Rattle.ck_epoch.specs.State.{Token, TokenState, records_of, barrier, state, 
 use Rattle.ck_epoch.specs.declared.item.Retired.{Retired}
 use Rattle.ck_epoch.proofs.FourLists.{queue_by_list, queue_behind}
 use Rattle.ck_epoch.specs.Lists.{on, by_list}
-use Rattle.ck_epoch.specs.Ends.{Writer}
 use Rattle.ck_epoch.proofs.Emptying.{row_length, are_dispatched}
 use Rattle.ck_epoch.proofs.Polled.{config_is, were_retired}
 use Rattle.ck_epoch.specs.Rounds.{Rounds, HaveEnded}
@@ -28,8 +27,7 @@ dispatch_all-requires-clause-items g c list low =
     let t = c.writer.inside.token in
     let b = c.writer.inside.backlog in
     let about = c.self.inside.about in
-    let token_is = ap (λ (v : Writer g.row.C.Denot g.row.F.Denot). v.token) c.writer.view_is in
-    let config = config_is t c.self.inside.words c.args.self.now about (ap table token_is ∙ c.requires.table) c.self.view_is c.self.invariant.told in
+    let config = config_is c.writer.view_is c.requires.table c.self.view_is c.self.invariant.told in
     let u = c.two_rounds.new.token in
     let none : queue (state u).pending ≡ [] = ap (λ (s : TokenState). queue s.pending) (c.two_rounds.ensures.state true refl) in
     are_dispatched (meaning.retires about.client) list b.lists (queue (state t).pending) (queue (state u).pending) c.writer.invariant.0.pending low (were_retired meaning t b c.writer.invariant.0 about config) (ap (on list) none)
