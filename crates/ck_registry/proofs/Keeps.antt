@@ -80,13 +80,9 @@ module _ (records tokens : ℕ) (past : Run) (words : List ℕ) (at : ℕ → To
   turns : (a : Activity) (c : ℕ) → (IsMember a → IsMember T.activity) → (IsMember T.activity → IsMember a) → T.calls ≤ c → c ≤ 2 ^ 40 → IsMemberScan records G a
       → ((r : ℕ) → r < records → HasPassed a G r → HasPassed T.activity G r ⊎ ((A words r ≡ 0) ⊎ (W words r ≡ G))) → ((r g : ℕ) → e.step ≢ Store (epoch_word r) g)
       → ((r : ℕ) → 0 < A words r → IsQuietScan a r → IsQuietScan T.activity r) → Held words (record T { activity = a; calls = c; steps = T.steps + 1 })
-  turns a c member holder counts few scans passes opens quiet = rests records tokens past words at h n e among (record T { activity = a; calls = c; steps = T.steps + 1 }) record {
-    section = refl;
-    rec = refl;
-    number = refl;
+  turns a c member holder counts few scans passes opens quiet = rests records tokens past words at h n e among a c T.pending T.dispatched record {
     member = member;
     holder = holder;
-    steps = refl;
     counts = counts;
     few = few;
     scan = scans;
@@ -126,7 +122,7 @@ module _ (records tokens : ℕ) (past : Run) (words : List ℕ) (at : ℕ → To
           → IsSound G (S records words' T.rec) (A words' T.rec) (W words' T.rec) → (IsMember a → (m : ℕ) → HasPassed (at m).activity G T.rec → IsAtGlobal G g)
           → ((o : ℕ) → IsSectionOpen after T.rec o → ((IsSectionOpen past T.rec o × (W words' T.rec ≡ W words T.rec)) ⊎ (o ≡ length past)) × IsWithinSection (record T { activity = a; section = g; calls = c; steps = T.steps + 1 }) T.rec)
           → Held words' (record T { activity = a; section = g; calls = c; steps = T.steps + 1 })
-      stores a g c still counts few reading member sound current opened = sets records tokens past words at h n e among T.rec words' (record T { activity = a; section = g; calls = c; steps = T.steps + 1 }) record {
+      stores a g c still counts few reading member sound current opened = sets records tokens past words at h n e among T.rec words' a g c record {
         low = mine.low;
         long = length-set words w x;
         global = get_or-set_other words w 0 x 0 pos;
@@ -134,15 +130,10 @@ module _ (records tokens : ℕ) (past : Run) (words : List ℕ) (at : ℕ → To
         was = λ _. refl;
         apart = apart;
         still = still;
-        rec = refl;
-        number = refl;
-        steps = refl;
         counts = counts;
         few = few;
         reading = reading;
         member = member;
-        pending = refl;
-        dispatched = refl;
         sound = sound;
         current = current;
         opened = opened;
@@ -188,7 +179,7 @@ module _ (records tokens : ℕ) (past : Run) (words : List ℕ) (at : ℕ → To
     -- the global epoch is loaded
     holds_epoch : (g : ℕ) → T.section ≡ entering → ((r y : ℕ) → e.step ≢ Store (epoch_word r) y) → g ≡ G → Held words (record T { activity = resting; section = holding g; steps = T.steps + 1 })
     holds_epoch g at_ opens found = let l = mine.low in let s = h.sound T.rec l in let b = s.behind in
-        sets records tokens past words at h n e among T.rec words (record T { activity = resting; section = holding g; steps = T.steps + 1 }) record {
+        sets records tokens past words at h n e among T.rec words resting (holding g) T.calls record {
           low = l;
           long = refl;
           global = refl;
@@ -196,15 +187,10 @@ module _ (records tokens : ℕ) (past : Run) (words : List ℕ) (at : ℕ → To
           was = λ _. refl;
           apart = apart;
           still = tt;
-          rec = refl;
-          number = refl;
-          steps = refl;
           counts = omega arith;
           few = few_calls;
           reading = tt;
           member = λ _. record { low = l; held = mine.held; counted = mine.counted ∙ ap active_of at_; timely = (omega arith, omega arith, omega arith) };
-          pending = refl;
-          dispatched = refl;
           sound = s;
           current = λ _ m p. found;
           opened = λ o now. absurd (none_open entering at_ entering_not_inside o (open_stays past n e T.rec o now (opens T.rec)));
@@ -246,13 +232,9 @@ module _ (records tokens : ℕ) (past : Run) (words : List ℕ) (at : ℕ → To
     retires : (at_ log found : ℕ) → e.item ≡ at_ ∷ log ∷ [] → e.step ≡ Load 0 found → found ≡ G → T.calls < 2 ^ 40
         → Held words (record T { activity = resting; calls = T.calls + 1; pending = T.pending ++ retirement T.steps at_ log found ∷ []; steps = T.steps + 1 })
     retires at_ log found item on same fewer = let s = (h.each n).steps in let k : Retirement = retirement T.steps at_ log found in
-        rests records tokens past words at h n e among (record T { activity = resting; calls = T.calls + 1; pending = T.pending ++ k ∷ []; steps = T.steps + 1 }) record {
-          section = refl;
-          rec = refl;
-          number = refl;
+        rests records tokens past words at h n e among resting (T.calls + 1) (T.pending ++ k ∷ []) T.dispatched record {
           member = λ _. is;
           holder = λ _. tt;
-          steps = refl;
           counts = omega arith;
           few = omega arith;
           scan = tt;
@@ -272,13 +254,9 @@ module _ (records tokens : ℕ) (past : Run) (words : List ℕ) (at : ℕ → To
     scans : (found : ℕ) → e.step ≡ Load 0 found → found ≡ G → T.calls < 2 ^ 40
         → Held words (record (dispatch (found - 2) T) { activity = passing found 0 None; calls = T.calls + 1; steps = T.steps + 1 })
     scans found on same fewer = let late = h.late in
-        rests records tokens past words at h n e among (record (dispatch (found - 2) T) { activity = passing found 0 None; calls = T.calls + 1; steps = T.steps + 1 }) record {
-          section = refl;
-          rec = refl;
-          number = refl;
+        rests records tokens past words at h n e among (passing found 0 None) (T.calls + 1) (dispatch (found - 2) T).pending (dispatch (found - 2) T).dispatched record {
           member = λ _. is;
           holder = λ _. tt;
-          steps = refl;
           counts = omega arith;
           few = omega arith;
           scan = (omega arith, omega arith, h.some_records);
@@ -298,13 +276,9 @@ module _ (records tokens : ℕ) (past : Run) (words : List ℕ) (at : ℕ → To
     -- a scan found no record active: all lists go
     clears : (v rec : ℕ) → T.activity ≡ passing v rec None → rec + 1 ≡ records → A words rec ≡ 0 → ((r g : ℕ) → e.step ≢ Store (epoch_word r) g)
         → Held words (record (dispatch_all T) { activity = resting; steps = T.steps + 1 })
-    clears v rec at_ last none opens = rests records tokens past words at h n e among (record (dispatch_all T) { activity = resting; steps = T.steps + 1 }) record {
-      section = refl;
-      rec = refl;
-      number = refl;
+    clears v rec at_ last none opens = rests records tokens past words at h n e among resting T.calls [] (dispatch_all T).dispatched record {
       member = λ _. is;
       holder = λ _. tt;
-      steps = refl;
       counts = omega arith;
       few = few_calls;
       scan = tt;
@@ -430,7 +404,7 @@ module _ (records tokens : ℕ) (past : Run) (words : List ℕ) (at : ℕ → To
         let state : S records words' r ≡ 1 = get_or-set_same words w 1 0 (omega arith) in
         let active : A words' r ≡ A words r = get_or-set_other words w (active_word r) 1 0 (λ z. absurd (omega arith)) in
         let own : W words' r ≡ W words r = get_or-set_other words w (epoch_word r) 1 0 (λ z. absurd (omega arith)) in
-        sets records tokens past words at h n e among r words' (record T { activity = resting; section = outside; rec = r; steps = T.steps + 1 }) record {
+        sets records tokens past words at h n e among r words' resting outside T.calls record {
           low = low;
           long = length-set words w 1;
           global = get_or-set_other words w 0 1 0 (λ z. absurd (omega arith));
@@ -438,15 +412,10 @@ module _ (records tokens : ℕ) (past : Run) (words : List ℕ) (at : ℕ → To
           was = λ m. absurd (not_member m);
           apart = λ m ne other same. let held = ((h.each m).member other).held in let z = ap (S records words) same in absurd (omega arith);
           still = tt;
-          rec = refl;
-          number = refl;
-          steps = refl;
           counts = omega arith;
           few = few_calls;
           reading = tt;
           member = λ _. record { low = low; held = state; counted = active ∙ idle; timely = tt };
-          pending = refl;
-          dispatched = refl;
           sound = record { behind = let b = s.behind in omega arith; low = omega arith; idle = λ z. active ∙ idle };
           current = λ _ m p. tt;
           opened = λ o now. let f = open_facts records tokens past words at h r o low (open_stays past n e r o now (no_store_exchange w 0 1 found on r)) in let some_ = f.0 in absurd (omega arith);

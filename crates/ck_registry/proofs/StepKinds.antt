@@ -64,149 +64,152 @@ module _ (records tokens : ℕ) (past : Run) (words : List ℕ) (at : ℕ → To
   abbrev pub more : List Entry
   more = account n past ++ e ∷ []
 
-  steps_now : (u : TokenState) → u.steps ≡ T.steps + 1 → u.steps ≡ length more
-  steps_now u is = let s = (h.each n).steps in let l = one_longer (account n past) e in omega arith
+  one_step : T.steps + 1 ≡ length more
+  one_step = let s = (h.each n).steps in let l = one_longer (account n past) e in omega arith
 
-  -- a step that changes no word
-  pub record Rest (u : TokenState) : Type 1 where
-    pub section : u.section ≡ T.section
-    pub rec : u.rec ≡ T.rec
-    pub number : u.number ≡ T.number
-    pub member : IsMember u.activity → IsMember T.activity
-    pub holder : IsMember T.activity → IsMember u.activity
-    pub steps : u.steps ≡ T.steps + 1
-    pub counts : T.calls ≤ u.calls
-    pub few : u.calls ≤ 2 ^ 40
-    pub scan : IsMemberScan records G u.activity
-    pub pending : All (IsPendingItem G more) u.pending
-    pub dispatched : All (IsRetired more) u.dispatched
-    pub passes : (r : ℕ) → r < records → HasPassed u.activity G r → HasPassed T.activity G r ⊎ ((A words r ≡ 0) ⊎ (W words r ≡ G))
+  -- a step that changes no word, and what it leaves of the visitor
+  abbrev pub rested : Activity → ℕ → List Retirement → List Retirement → TokenState
+  rested a calls ps qs = record T { activity = a; steps = T.steps + 1; calls = calls; pending = ps; dispatched = qs }
+
+  pub record Rest (a : Activity) (calls : ℕ) (ps qs : List Retirement) : Type 1 where
+    pub member : IsMember a → IsMember T.activity
+    pub holder : IsMember T.activity → IsMember a
+    pub counts : T.calls ≤ calls
+    pub few : calls ≤ 2 ^ 40
+    pub scan : IsMemberScan records G a
+    pub pending : All (IsPendingItem G more) ps
+    pub dispatched : All (IsRetired more) qs
+    pub passes : (r : ℕ) → r < records → HasPassed a G r → HasPassed T.activity G r ⊎ ((A words r ≡ 0) ⊎ (W words r ≡ G))
     pub opens : (r g : ℕ) → e.step ≢ Store (epoch_word r) g
-    pub guards : (older : ℕ → Type 0) (r : ℕ) → r < records → 0 < A words r → W words r ≤ G → G ≤ W words r + 1 → IsSectionGuarded older r (W words r) T → IsSectionGuarded older r (W words r) u
+    pub guards : (older : ℕ → Type 0) (r : ℕ) → r < records → 0 < A words r → W words r ≤ G → G ≤ W words r + 1 → IsSectionGuarded older r (W words r) T → IsSectionGuarded older r (W words r) (rested a calls ps qs)
 
-  module _ (u : TokenState) (c : Rest u) where
+  module _ (a : Activity) (calls : ℕ) (ps qs : List Retirement) (c : Rest a calls ps qs) where
+    abbrev turned : TokenState
+    turned = rested a calls ps qs
+
     stays_open : (r o : ℕ) → IsSectionOpen after r o → IsSectionOpen past r o
     stays_open r o is = open_stays past n e r o is (c.opens r)
 
     -- what it found of a member's record
-    by_words : (k : ℕ) → IsMember (at k).activity → HasPassed u.activity G (at k).rec → IsAtGlobal G (at k).section
+    by_words : (k : ℕ) → IsMember (at k).activity → HasPassed a G (at k).rec → IsAtGlobal G (at k).section
     by_words k is passed = ⊎_elim
         (λ old. h.found n k is old)
         (λ new. found_current records tokens past words at h k is new)
         (c.passes (at k).rec ((h.each k).member is).low passed)
 
-    inside_now : (r o : ℕ) → r < records → IsSectionOpen after r o → (k : ℕ) × IsWithinSection (moved at n u k) r
+    inside_now : (r o : ℕ) → r < records → IsSectionOpen after r o → (k : ℕ) × IsWithinSection (moved at n turned k) r
     inside_now r o low is = let i = h.open_in r o low (stays_open r o is) in (
       i.0,
       dite (ℕ_discrete n i.0)
-          (λ same. let z : at i.0 ≡ T = ap at (sym same) in subst (λ (t : TokenState). IsWithinSection t r) (sym (moved_here at n i.0 u same)) record {
-            holds = (c.holder (subst (λ (t : TokenState). IsMember t.activity) z i.1.holds.0), c.rec ∙ (ap (λ (t : TokenState). t.rec) (sym z) ∙ i.1.holds.1));
+          (λ same. let z : at i.0 ≡ T = ap at (sym same) in subst (λ (t : TokenState). IsWithinSection t r) (sym (moved_here at n i.0 turned same)) record {
+            holds = (c.holder (subst (λ (t : TokenState). IsMember t.activity) z i.1.holds.0), ap (λ (t : TokenState). t.rec) (sym z) ∙ i.1.holds.1);
             depth = i.1.depth;
             epoch = i.1.epoch;
-            section = c.section ∙ (ap (λ (t : TokenState). t.section) (sym z) ∙ i.1.section);
+            section = ap (λ (t : TokenState). t.section) (sym z) ∙ i.1.section;
           })
-          (λ ne. subst (λ (t : TokenState). IsWithinSection t r) (sym (moved_else at n i.0 u ne)) i.1),
+          (λ ne. subst (λ (t : TokenState). IsWithinSection t r) (sym (moved_else at n i.0 turned ne)) i.1),
     )
 
-    pub rests : AreMembersHeld records tokens after words (moved at n u)
-    rests = let v = h.each n in changes records tokens past words at h n e words G u refl record {
+    pub rests : AreMembersHeld records tokens after words (moved at n turned)
+    rests = let v = h.each n in changes records tokens past words at h n e words G turned refl record {
       among = among;
       long = refl;
       up = omega arith;
-      number = c.number ∙ h.numbered n;
+      number = h.numbered n;
       counts = let k = c.counts in omega arith;
       mine = record {
-        steps = steps_now u c.steps;
+        steps = one_step;
         few = c.few;
-        reading = subst IsOfPass (sym c.section) v.reading;
-        member = λ is. subst (λ (x : ℕ × Stage). IsMemberHeld records G (S records words x.0) (A words x.0) (W words x.0) x.0 x.1) (λ i. (sym c.rec i, sym c.section i)) (v.member (c.member is));
+        reading = v.reading;
+        member = λ is. v.member (c.member is);
         scan = c.scan;
         pending = c.pending;
         dispatched = c.dispatched;
       };
       others = λ m ne is. (refl, refl, refl, ((h.each m).member is).timely);
       sound = h.sound;
-      alone = λ m ne is mine same. ne (sym (h.alone m n is (c.member mine) (same ∙ c.rec)));
+      alone = λ m ne is mine same. ne (sym (h.alone m n is (c.member mine) same));
       found_others = λ m k _ _ is passed. h.found m k is passed;
-      found_me = λ m ne is passed. subst (IsAtGlobal G) (sym c.section) (h.found m n (c.member is) (subst (HasPassed (at m).activity G) c.rec passed));
+      found_me = λ m ne is passed. h.found m n (c.member is) passed;
       found_by_me = λ k ne is passed. by_words k is passed;
-      found_self = λ is passed. subst (IsAtGlobal G) (sym c.section) (by_words n (c.member is) (subst (HasPassed u.activity G) c.rec passed));
+      found_self = λ is passed. by_words n (c.member is) passed;
       cases = λ r o low is. inl (stays_open r o is, refl);
       inside = inside_now;
       guards = λ older r o low was is g. let f = open_facts records tokens past words at h r o low was in c.guards older r low f.0 f.1 f.2 g;
     }
 
   -- A step on the words of the record q, which is the visitor's before the step or after it
-  pub record Sets (q : ℕ) (words' : List ℕ) (u : TokenState) : Type 0 where
+  abbrev pub stored : ℕ → Activity → Stage → ℕ → TokenState
+  stored q a g calls = record T { activity = a; section = g; rec = q; steps = T.steps + 1; calls = calls }
+
+  pub record Sets (q : ℕ) (words' : List ℕ) (a : Activity) (g : Stage) (calls : ℕ) : Type 0 where
     pub low : q < records
     pub long : length words' ≡ length words
     pub global : get_or words' 0 0 ≡ G
     pub rest : (r : ℕ) → r < records → q ≢ r → (S records words' r ≡ S records words r) × (A words' r ≡ A words r) × (W words' r ≡ W words r)
     pub was : IsMember T.activity → T.rec ≡ q
     pub apart : (m : ℕ) → n ≢ m → IsMember (at m).activity → q ≢ (at m).rec
-    pub still : IsStill u.activity
-    pub rec : u.rec ≡ q
-    pub number : u.number ≡ T.number
-    pub steps : u.steps ≡ T.steps + 1
-    pub counts : T.calls ≤ u.calls
-    pub few : u.calls ≤ 2 ^ 40
-    pub reading : IsOfPass u.section
-    pub member : IsMember u.activity → IsMemberHeld records G (S records words' q) (A words' q) (W words' q) q u.section
-    pub pending : u.pending ≡ T.pending
-    pub dispatched : u.dispatched ≡ T.dispatched
+    pub still : IsStill a
+    pub counts : T.calls ≤ calls
+    pub few : calls ≤ 2 ^ 40
+    pub reading : IsOfPass g
+    pub member : IsMember a → IsMemberHeld records G (S records words' q) (A words' q) (W words' q) q g
     pub sound : IsSound G (S records words' q) (A words' q) (W words' q)
-    pub current : IsMember u.activity → (m : ℕ) → HasPassed (at m).activity G q → IsAtGlobal G u.section
-    pub opened : (o : ℕ) → IsSectionOpen after q o → ((IsSectionOpen past q o × (W words' q ≡ W words q)) ⊎ (o ≡ length past)) × IsWithinSection u q
-    pub elsewhere : (r g : ℕ) → r < records → q ≢ r → e.step ≢ Store (epoch_word r) g
+    pub current : IsMember a → (m : ℕ) → HasPassed (at m).activity G q → IsAtGlobal G g
+    pub opened : (o : ℕ) → IsSectionOpen after q o → ((IsSectionOpen past q o × (W words' q ≡ W words q)) ⊎ (o ≡ length past)) × IsWithinSection (stored q a g calls) q
+    pub elsewhere : (r x : ℕ) → r < records → q ≢ r → e.step ≢ Store (epoch_word r) x
 
-  module _ (q : ℕ) (words' : List ℕ) (u : TokenState) (c : Sets q words' u) where
+  module _ (q : ℕ) (words' : List ℕ) (a : Activity) (g : Stage) (calls : ℕ) (c : Sets q words' a g calls) where
+    abbrev changed : TokenState
+    changed = stored q a g calls
+
     stays_else : (r o : ℕ) → r < records → q ≢ r → IsSectionOpen after r o → IsSectionOpen past r o
     stays_else r o low ne is = open_stays past n e r o is (λ g. c.elsewhere r g low ne)
 
-    inside_else : (r o : ℕ) → r < records → q ≢ r → IsSectionOpen after r o → (k : ℕ) × IsWithinSection (moved at n u k) r
+    inside_else : (r o : ℕ) → r < records → q ≢ r → IsSectionOpen after r o → (k : ℕ) × IsWithinSection (moved at n changed k) r
     inside_else r o low ne is = let i = h.open_in r o low (stays_else r o low ne is) in (
       i.0,
       dite (ℕ_discrete n i.0)
           (λ same. let z : at i.0 ≡ T = ap at (sym same) in
           absurd (ne (sym (c.was (subst (λ (t : TokenState). IsMember t.activity) z i.1.holds.0)) ∙ (ap (λ (t : TokenState). t.rec) (sym z) ∙ i.1.holds.1))))
-          (λ other. subst (λ (t : TokenState). IsWithinSection t r) (sym (moved_else at n i.0 u other)) i.1),
+          (λ other. subst (λ (t : TokenState). IsWithinSection t r) (sym (moved_else at n i.0 changed other)) i.1),
     )
 
-    pub sets : AreMembersHeld records tokens after words' (moved at n u)
-    sets = let v = h.each n in changes records tokens past words at h n e words' G u c.global record {
+    pub sets : AreMembersHeld records tokens after words' (moved at n changed)
+    sets = let v = h.each n in changes records tokens past words at h n e words' G changed c.global record {
       among = among;
       long = c.long;
       up = omega arith;
-      number = c.number ∙ h.numbered n;
+      number = h.numbered n;
       counts = let k = c.counts in omega arith;
       mine = record {
-        steps = steps_now u c.steps;
+        steps = one_step;
         few = c.few;
         reading = c.reading;
-        member = λ is. subst (λ (x : ℕ). IsMemberHeld records G (S records words' x) (A words' x) (W words' x) x u.section) (sym c.rec) (c.member is);
-        scan = still_scan records G u.activity c.still;
-        pending = subst (All (IsPendingItem G more)) (sym c.pending) (pending_more (account n past) e G G (omega arith) T.pending v.pending);
-        dispatched = subst (All (IsRetired more)) (sym c.dispatched) (retired_more (account n past) e T.dispatched v.dispatched);
+        member = c.member;
+        scan = still_scan records G a c.still;
+        pending = pending_more (account n past) e G G (omega arith) T.pending v.pending;
+        dispatched = retired_more (account n past) e T.dispatched v.dispatched;
       };
       others = λ m ne is. let k = (h.each m).member is in let s = c.rest (at m).rec k.low (c.apart m ne is) in (s.0, s.1, s.2, k.timely);
       sound = λ r low. dite (ℕ_discrete q r)
           (λ same. subst (λ (x : ℕ). IsSound G (S records words' x) (A words' x) (W words' x)) same c.sound)
           (λ ne. let s = c.rest r low ne in subst (λ (x : ℕ × ℕ × ℕ). IsSound G x.0 x.1 x.2) (λ i. (sym s.0 i, sym s.1 i, sym s.2 i)) (h.sound r low));
-      alone = λ m ne is mine same. c.apart m ne is (sym c.rec ∙ sym same);
+      alone = λ m ne is mine same. c.apart m ne is (sym same);
       found_others = λ m k _ _ is passed. h.found m k is passed;
-      found_me = λ m ne is passed. c.current is m (subst (HasPassed (at m).activity G) c.rec passed);
-      found_by_me = λ k ne is passed. absurd (still_passed u.activity G (at k).rec c.still passed);
-      found_self = λ is passed. absurd (still_passed u.activity G u.rec c.still passed);
+      found_me = λ m ne is passed. c.current is m passed;
+      found_by_me = λ k ne is passed. absurd (still_passed a G (at k).rec c.still passed);
+      found_self = λ is passed. absurd (still_passed a G q c.still passed);
       cases = λ r o low is. dite (ℕ_discrete q r)
           (λ same. subst (λ (x : ℕ). IsSectionOpen after x o → (IsSectionOpen past x o × (W words' x ≡ W words x)) ⊎ (o ≡ length past)) same (λ is. (c.opened o is).0) is)
           (λ ne. inl (stays_else r o low ne is, (c.rest r low ne).2));
       inside = λ r o low is. dite (ℕ_discrete q r)
-          (λ same. (n, subst (λ (t : TokenState). IsWithinSection t r) (sym (moved_here at n n u refl)) (subst (λ (x : ℕ). IsSectionOpen after x o → IsWithinSection u x) same (λ is. (c.opened o is).1) is)))
+          (λ same. (n, subst (λ (t : TokenState). IsWithinSection t r) (sym (moved_here at n n changed refl)) (subst (λ (x : ℕ). IsSectionOpen after x o → IsWithinSection changed x) same (λ is. (c.opened o is).1) is)))
           (λ ne. inside_else r o low ne is);
       guards = λ older r o low was is g. record {
-        pending = subst (All (λ (k : Retirement). older k.number → W words r ≤ k.retired.epoch)) (sym c.pending) g.pending;
-        dispatched = subst (All (λ (k : Retirement). ¬ older k.number)) (sym c.dispatched) g.dispatched;
-        quiet = λ quiet. absurd (still_quiet u.activity r c.still quiet);
+        pending = g.pending;
+        dispatched = g.dispatched;
+        quiet = λ quiet. absurd (still_quiet a r c.still quiet);
       };
     }
 
@@ -252,7 +255,7 @@ module _ (records tokens : ℕ) (past : Run) (words : List ℕ) (at : ℕ → To
           number = h.numbered n;
           counts = omega arith;
           mine = record {
-            steps = steps_now risen refl;
+            steps = one_step;
             few = omega arith;
             reading = v.reading;
             member = λ is. let k = v.member mine_is in let s = same_words T.rec in record {
