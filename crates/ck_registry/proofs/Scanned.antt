@@ -1,5 +1,5 @@
 -- What a scan leaves, by what it found.
-use Rattle.std.proofs.Common.{◌≡◌, ℕ, ◌+◌, ◌-◌, ◌%◌, ◌<◌, ◌≤◌, [], ◌++◌, length, refl, ap, arith}
+use Rattle.std.proofs.Common.{◌≡◌, ℕ, ◌+◌, ◌-◌, ◌%◌, ◌<◌, ◌≤◌, [], ◌++◌, length, refl, ap, ◌∙◌, arith}
 use Rattle.ck_run.specs.Tokens.{number, origin}
 use Rattle.ck_epoch.specs.State.{queue}
 use Rattle.ck_epoch.specs.Lists.{items_on, in_a_row}
@@ -9,11 +9,17 @@ use Rattle.ck_registry.specs.declared.answers.Finding.TheVariants.{AllInactive, 
 use Rattle.ck_registry.specs.declared.answers.Scan.TheVariants.{Clear, Blocked, Ready}
 use Rattle.ck_registry.specs.State.{Token, TokenState, records_of, state}
 use Rattle.ck_registry.specs.Deferred.{Deferred, items_of}
-use Rattle.ck_registry.specs.Ends.{Member, IsHolder, AreDeferred}
+use Rattle.ck_registry.specs.Ends.{Member, IsIdle, IsHolder, AreDeferred}
 use Rattle.ck_registry.specs.Calls.{IsScan}
 use Rattle.ck_registry.specs.Scan.{after_finding, HasScanned}
 use Rattle.ck_registry.proofs.Stepping.{Went, holder_after}
 use Rattle.ck_registry.proofs.Dispatching.{one_waits, one_count, one_pending, one_dispatched, one_deferred, all_waits, all_count, all_dispatched, all_deferred}
+
+-- whatever it found
+leaves : (e : ℕ) (s : TokenState) (f : Finding) → ((after_finding e s f).rec ≡ s.rec) × ((after_finding e s f).section ≡ s.section) × ((after_finding e s f).calls ≡ s.calls + 1) × IsIdle (after_finding e s f).activity
+leaves e s AllInactive = (refl, refl, refl, tt)
+leaves e s (AllCurrent rec) = (refl, refl, refl, tt)
+leaves e s (OneBehind rec epoch) = (refl, refl, refl, tt)
 
 module _ (t u : Token) (e : ℕ) where
   scan_went : (f : Finding) → (h : HasScanned t u e f) → Went t u (record (after_finding e (state t) f) { steps = h.made })
@@ -23,24 +29,16 @@ module _ (t u : Token) (e : ℕ) where
 
   -- the member holds its record, with the sections that it had
   pub scan_holder : (f : Finding) (rec d : ℕ) → HasScanned t u e f → IsHolder t rec d → IsHolder u rec d
-  scan_holder AllInactive rec d s h = holder_after t u _ rec d d (scan_went AllInactive s) h tt refl h.section
-  scan_holder (AllCurrent r) rec d s h = holder_after t u _ rec d d (scan_went (AllCurrent r) s) h tt refl h.section
-  scan_holder (OneBehind r x) rec d s h = holder_after t u _ rec d d (scan_went (OneBehind r x) s) h tt refl h.section
+  scan_holder f rec d s h = let k = leaves e (state t) f in holder_after t u _ rec d d (scan_went f s) h k.3 k.0 (h.section.0, k.1 ∙ h.section.1)
 
   pub scan_rec : (f : Finding) → HasScanned t u e f → (state u).rec ≡ (state t).rec
-  scan_rec AllInactive s = ap (λ (x : TokenState). x.rec) s.at.state
-  scan_rec (AllCurrent r) s = ap (λ (x : TokenState). x.rec) s.at.state
-  scan_rec (OneBehind r x) s = ap (λ (x : TokenState). x.rec) s.at.state
+  scan_rec f s = ap (λ (x : TokenState). x.rec) s.at.state ∙ (leaves e (state t) f).0
 
   pub scan_section : (f : Finding) → HasScanned t u e f → (state u).section ≡ (state t).section
-  scan_section AllInactive s = ap (λ (x : TokenState). x.section) s.at.state
-  scan_section (AllCurrent r) s = ap (λ (x : TokenState). x.section) s.at.state
-  scan_section (OneBehind r x) s = ap (λ (x : TokenState). x.section) s.at.state
+  scan_section f s = ap (λ (x : TokenState). x.section) s.at.state ∙ (leaves e (state t) f).1
 
   pub scan_calls : (f : Finding) → HasScanned t u e f → (state u).calls ≡ (state t).calls + 1
-  scan_calls AllInactive s = ap (λ (x : TokenState). x.calls) s.at.state
-  scan_calls (AllCurrent r) s = ap (λ (x : TokenState). x.calls) s.at.state
-  scan_calls (OneBehind r x) s = ap (λ (x : TokenState). x.calls) s.at.state
+  scan_calls f s = ap (λ (x : TokenState). x.calls) s.at.state ∙ (leaves e (state t) f).2
 
   pub scan_number : (f : Finding) → HasScanned t u e f → number u ≡ number t
   scan_number f s = (scan_went f s).number
