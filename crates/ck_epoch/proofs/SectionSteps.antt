@@ -52,6 +52,15 @@ module _ {C : Type 0} (client : Client C) (passes : Passes client) where
   at_stage : (t : Token C) (g : Stage) → IsDomainToken client t → (state t).stage ≡ g → Went t t (record (state t) { stage = g })
   at_stage t g p is = record { part = p; same = refl; number = refl; state = ap (λ (h : Stage). record (state t) { stage = h }) is }
 
+  -- a pass has so many nested sections open after it went on
+  pass_after : (t u : Token C) (s : TokenState) (rec d d' : ℕ) → Went t u s → IsPass client t rec d → (g : ℕ) × (s.stage ≡ at_depth d' g) → IsPass client u rec d'
+  pass_after t u s rec d d' w at stage = record {
+    part = w.part;
+    other = w.number ∙ at.other;
+    low = subst (λ (o : Origin C). rec < records_of o) (sym w.same) at.low;
+    stage = (stage.0, ap (λ (x : TokenState). x.stage) w.state ∙ stage.1);
+  }
+
   -- `begin`, of a pass that has no section open
   module _ (t : Token C) (rec : ℕ) (at : IsPass client t rec 0) (few : (state t).calls < 2 ^ 40) where
     abbrev R : ℕ
@@ -99,12 +108,7 @@ module _ {C : Type 0} (client : Client C) (passes : Passes client) where
           at_inside = goes t v z (further (Store x g)) at_epoch at_holding opened
 
           pub is_inside : IsPass client z rec 1
-          is_inside = record {
-            part = at_inside.part;
-            other = at_inside.number ∙ at.other;
-            low = subst (λ (o : Origin C). rec < records_of o) (sym at_inside.same) at.low;
-            stage = (g, ap (λ (s : TokenState). s.stage) at_inside.state);
-          }
+          is_inside = pass_after t z (record at_epoch { stage = inside 1 g; steps = (state t).steps + 1 + 1 + 1 }) rec 0 1 at_inside at (g, refl)
 
           pub one_call : (state z).calls ≡ (state t).calls + 1
           one_call = ap (λ (s : TokenState). s.calls) at_inside.state
@@ -143,12 +147,7 @@ module _ {C : Type 0} (client : Client C) (passes : Passes client) where
           (goes t t u (sets w) (record (state t) { stage = inside d g }) at_depth_d made)
 
       pub is_set : IsPass client u rec n
-      is_set = record {
-        part = at_set.part;
-        other = at_set.number ∙ at.other;
-        low = subst (λ (o : Origin C). rec < records_of o) (sym at_set.same) at.low;
-        stage = (g, ap (λ (s : TokenState). s.stage) at_set.state);
-      }
+      is_set = pass_after t u (record (state t) { stage = at_depth n g; calls = (state t).calls + 1; steps = (state t).steps + 1 }) rec d n at_set at (g, refl)
 
       pub set_calls : (state u).calls ≡ (state t).calls + 1
       set_calls = ap (λ (s : TokenState). s.calls) at_set.state

@@ -14,20 +14,12 @@ load-active-requires-clause-may g c n b =
     may_look g.C.Client.meaning g.met.C.Client.passes c.args.epoch c.args.rec c.args.token.now c.loop.token h (in_range c.args.rec c.args.token.now c.loop.token c.args.self.now h.same c.requires.table c.requires.rec)
     c.active_word.result c.active_word.ensures n
 
-pub returns-then-active-eq0-clause-table : goal.returns-then-active-eq0-clause-table
-returns-then-active-eq0-clause-table g c = c.load-active.ensures.table ∙ c.loop.invariant.same
-
-pub returns-then-active-eq0-clause-steps : goal.returns-then-active-eq0-clause-steps
-returns-then-active-eq0-clause-steps g c =
+pub returns-then-active-eq0 : goal.returns-then-active-eq0
+returns-then-active-eq0 g c =
     let h = c.loop.invariant in
-    (passed_inactive g.C.Client.meaning g.met.C.Client.passes c.args.epoch c.args.rec c.args.token.now c.loop.token h (in_range c.args.rec c.args.token.now c.loop.token c.args.self.now h.same c.requires.table c.requires.rec)
-    c.active_word.result c.active_word.ensures c.load-active.new.token c.load-active.result c.load-active.ensures.step c.if-active-eq0.true).did
-
-pub returns-then-active-eq0-clause-scans : goal.returns-then-active-eq0-clause-scans
-returns-then-active-eq0-clause-scans g c =
-    let h = c.loop.invariant in
-    (passed_inactive g.C.Client.meaning g.met.C.Client.passes c.args.epoch c.args.rec c.args.token.now c.loop.token h (in_range c.args.rec c.args.token.now c.loop.token c.args.self.now h.same c.requires.table c.requires.rec)
-    c.active_word.result c.active_word.ensures c.load-active.new.token c.load-active.result c.load-active.ensures.step c.if-active-eq0.true).scans
+    let p = passed_inactive g.C.Client.meaning g.met.C.Client.passes c.args.epoch c.args.rec c.args.token.now c.loop.token h (in_range c.args.rec c.args.token.now c.loop.token c.args.self.now h.same c.requires.table c.requires.rec)
+    c.active_word.result c.active_word.ensures c.load-active.new.token c.load-active.result c.load-active.ensures.step c.if-active-eq0.true in
+    record { table = p.same; steps = p.did; scans = p.scans }
 
 pub load-found-requires-clause-table : goal.load-found-requires-clause-table
 load-found-requires-clause-table g c = c.load-active.ensures.table ∙ (c.loop.invariant.same ∙ (c.requires.table ∙ sym c.self.view_is))
@@ -38,22 +30,13 @@ load-found-requires-clause-may g c n b =
     may_compare g.C.Client.meaning g.met.C.Client.passes c.args.epoch c.args.rec c.args.token.now c.loop.token h (in_range c.args.rec c.args.token.now c.loop.token c.args.self.now h.same c.requires.table c.requires.rec)
     c.active_word.result c.active_word.ensures c.load-active.new.token c.load-active.result c.load-active.ensures.step c.if-active-eq0.false c.epoch_word.result c.epoch_word.ensures n
 
-pub returns-then-found-epoch-clause-table : goal.returns-then-found-epoch-clause-table
-returns-then-found-epoch-clause-table g c = c.load-found.ensures.table ∙ (c.load-active.ensures.table ∙ c.loop.invariant.same)
-
-pub returns-then-found-epoch-clause-steps : goal.returns-then-found-epoch-clause-steps
-returns-then-found-epoch-clause-steps g c =
+pub returns-then-found-epoch : goal.returns-then-found-epoch
+returns-then-found-epoch g c =
     let h = c.loop.invariant in
-    (passed_current g.C.Client.meaning g.met.C.Client.passes c.args.epoch c.args.rec c.args.token.now c.loop.token h (in_range c.args.rec c.args.token.now c.loop.token c.args.self.now h.same c.requires.table c.requires.rec)
+    let p = passed_current g.C.Client.meaning g.met.C.Client.passes c.args.epoch c.args.rec c.args.token.now c.loop.token h (in_range c.args.rec c.args.token.now c.loop.token c.args.self.now h.same c.requires.table c.requires.rec)
     c.active_word.result c.active_word.ensures c.load-active.new.token c.load-active.result c.load-active.ensures.step c.if-active-eq0.false c.epoch_word.result c.epoch_word.ensures
-    c.load-found.new.token c.load-found.result c.load-found.ensures.step c.if-found-epoch.true).did
-
-pub returns-then-found-epoch-clause-scans : goal.returns-then-found-epoch-clause-scans
-returns-then-found-epoch-clause-scans g c =
-    let h = c.loop.invariant in
-    (passed_current g.C.Client.meaning g.met.C.Client.passes c.args.epoch c.args.rec c.args.token.now c.loop.token h (in_range c.args.rec c.args.token.now c.loop.token c.args.self.now h.same c.requires.table c.requires.rec)
-    c.active_word.result c.active_word.ensures c.load-active.new.token c.load-active.result c.load-active.ensures.step c.if-active-eq0.false c.epoch_word.result c.epoch_word.ensures
-    c.load-found.new.token c.load-found.result c.load-found.ensures.step c.if-found-epoch.true).scans
+    c.load-found.new.token c.load-found.result c.load-found.ensures.step c.if-found-epoch.true in
+    record { table = p.same; steps = p.did; scans = p.scans }
 
 pub loop-preserved : goal.loop-preserved
 loop-preserved g c =
