@@ -1,5 +1,5 @@
 -- A step of a token of a domain: when the domain and its client allow it, and where it leaves the token.
-use Rattle.std.proofs.Common.{◌≡◌, ℕ, suc, ◌+◌, ◌<◌, List, [], ◌∷◌, refl, sym, ap, ◌∙◌, subst, arith, inl}
+use Rattle.std.proofs.Common.{◌≡◌, ℕ, suc, ◌+◌, ◌^◌, ◌<◌, ◌≤◌, List, [], ◌∷◌, refl, sym, ap, ◌∙◌, subst, arith, inl}
 use Rattle.ck_run.specs.declared.account.Entry.{Entry}
 use Rattle.ck_run.specs.declared.account.Step.{Step}
 use Rattle.ck_run.specs.declared.account.Step.TheVariants.{Load, Exchange}
@@ -14,6 +14,10 @@ use Rattle.ck_epoch.specs.Ends.{IsDomainToken}
 use Rattle.ck_epoch.specs.Calls.{MayFollow}
 use Rattle.ck_epoch.specs.Held.{IsWriterHeld}
 use Rattle.ck_epoch.proofs.Moments.{sees, writer_knows, loads_global, finds_global}
+
+-- what a token counts is below the most where what its owner counts is
+pub few_calls : {A : Type 0} (calls : A → ℕ) {x y : A} {n : ℕ} → x ≡ y → n ≤ calls x → calls y < 2 ^ 40 → n < 2 ^ 40
+few_calls calls same counts few = let e = ap calls same in omega arith
 
 module _ {C : Type 0} (client : Client C) where
   abbrev pub Steps : Token C → Entry → Token C → Type 0

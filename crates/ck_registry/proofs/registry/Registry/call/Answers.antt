@@ -1,9 +1,10 @@
-use Rattle.std.proofs.Common.{◌+◌, ◌<◌, ◌^◌, [], ◌∷◌, ◌++◌, length, sym, ap, ◌∙◌, subst, arith}
+use Rattle.std.proofs.Common.{◌+◌, ◌<◌, [], ◌∷◌, ◌++◌, length, sym, ap, ◌∙◌, subst, arith}
 use Rattle.ck_run.specs.declared.account.Step.TheVariants.{Load}
 use Rattle.ck_run.specs.Run.{handing}
 use Rattle.ck_run.specs.Tokens.{adding, table, number}
 use Rattle.ck_epoch.specs.State.{queue}
 use Rattle.ck_epoch.proofs.Emptying.{row_length}
+use Rattle.ck_epoch.proofs.Stepping.{few_calls}
 use Rattle.ck_registry.specs.State.{retire, state}
 use Rattle.ck_registry.specs.Ends.{Member, rec_of}
 use Rattle.ck_registry.proofs.Dispatching.{member_is, may_retire, is_retired, queued, retired_dispatched, retired_section, retired_rec, retired_calls, put_behind}
@@ -11,7 +12,7 @@ use Rattle.ck_registry.proofs.registry.Registry.call.Goals as goal
 
 pub retire-epoch-requires-clause-may : goal.retire-epoch-requires-clause-may
 retire-epoch-requires-clause-may c n fits =
-    let few : (state c.m.inside.token).calls < 2 ^ 40 = let a = c.m.invariant.2 in let b = c.requires.calls in let e = ap (λ (m : Member). m.calls) c.m.view_is in omega arith in
+    let few = few_calls (λ (m : Member). m.calls) c.m.view_is c.m.invariant.2 c.requires.calls in
     may_retire c.m.inside.token c.m.inside.rec c.m.inside.depth c.m.invariant.0 few c.args.item n
 
 pub retire-requires : goal.retire-requires
@@ -23,7 +24,7 @@ retire-requires c =
 pub invariant_of-m : goal.invariant_of-m
 invariant_of-m c =
     let t = c.m.inside.token in let i = c.args.item in let d = c.m.inside.deferred in
-    let few : (state t).calls < 2 ^ 40 = let a = c.m.invariant.2 in let b = c.requires.calls in let e = ap (λ (m : Member). m.calls) c.m.view_is in omega arith in
+    let few = few_calls (λ (m : Member). m.calls) c.m.view_is c.m.invariant.2 c.requires.calls in
     let counted = retired_calls t c.m.inside.rec c.m.inside.depth c.m.invariant.0 few i c.retire-epoch.new.token c.retire-epoch.result c.retire-epoch.ensures.step in
     let before = c.m.invariant.2 in (
       is_retired t c.m.inside.rec c.m.inside.depth c.m.invariant.0 few i c.retire-epoch.new.token c.retire-epoch.result c.retire-epoch.ensures.step,
@@ -34,7 +35,7 @@ invariant_of-m c =
 pub returns-clause-retires : goal.returns-clause-retires
 returns-clause-retires c =
     let t = c.m.inside.token in let i = c.args.item in let d = c.m.inside.deferred in let n = c.retire-epoch.result in
-    let few : (state t).calls < 2 ^ 40 = let a = c.m.invariant.2 in let b = c.requires.calls in let e = ap (λ (m : Member). m.calls) c.m.view_is in omega arith in (
+    let few = few_calls (λ (m : Member). m.calls) c.m.view_is c.m.invariant.2 c.requires.calls in (
       n,
       record {
         step = member_is c.retire-epoch.new.token (adding t (handing (retire ∷ i.at ∷ i.log ∷ []) (i.at ∷ i.log ∷ []) (Load 0 n) ∷ [])) c.retire.new.self.waiting d.waiting c.retire.new.self.room d.room (c.m.inside.calls + 1)
@@ -49,7 +50,7 @@ returns-clause-retires c =
 pub returns-clause-same : goal.returns-clause-same
 returns-clause-same c =
     let t = c.m.inside.token in
-    let few : (state t).calls < 2 ^ 40 = let a = c.m.invariant.2 in let b = c.requires.calls in let e = ap (λ (m : Member). m.calls) c.m.view_is in omega arith in (
+    let few = few_calls (λ (m : Member). m.calls) c.m.view_is c.m.invariant.2 c.requires.calls in (
       c.retire-epoch.ensures.table ∙ ap (λ (m : Member). table m.token) c.m.view_is,
       ap number c.retire-epoch.ensures.step.0 ∙ ap (λ (m : Member). number m.token) c.m.view_is,
       retired_rec t c.m.inside.rec c.m.inside.depth c.m.invariant.0 few c.args.item c.retire-epoch.new.token c.retire-epoch.result c.retire-epoch.ensures.step ∙ ap (λ (m : Member). rec_of m.token) c.m.view_is,
@@ -59,5 +60,5 @@ returns-clause-same c =
 pub returns-clause-depth : goal.returns-clause-depth
 returns-clause-depth c =
     let t = c.m.inside.token in
-    let few : (state t).calls < 2 ^ 40 = let a = c.m.invariant.2 in let b = c.requires.calls in let e = ap (λ (m : Member). m.calls) c.m.view_is in omega arith in
+    let few = few_calls (λ (m : Member). m.calls) c.m.view_is c.m.invariant.2 c.requires.calls in
     retired_section t c.m.inside.rec c.m.inside.depth c.m.invariant.0 few c.args.item c.retire-epoch.new.token c.retire-epoch.result c.retire-epoch.ensures.step ∙ ap (λ (m : Member). (state m.token).section) c.m.view_is
