@@ -1,11 +1,12 @@
 -- What a scan leaves, by what it found.
-use Rattle.std.proofs.Common.{◌≡◌, ℕ, ◌+◌, ◌-◌, ◌%◌, ◌<◌, ◌≤◌, [], ◌++◌, length, refl, ap, ◌∙◌, arith}
-use Rattle.ck_run.specs.Tokens.{number, origin}
+use Rattle.std.proofs.Common.{◌≡◌, ℕ, ◌+◌, ◌-◌, ◌%◌, ◌<◌, ◌≤◌, [], ◌++◌, length, refl, ap, ◌∙◌, subst, arith}
+use Rattle.ck_run.specs.Tokens.{Table, table, number, origin}
 use Rattle.ck_epoch.specs.State.{queue}
 use Rattle.ck_epoch.specs.Lists.{items_on, in_a_row}
 use Rattle.ck_epoch.proofs.Emptying.{IsEmptied}
 use Rattle.ck_registry.specs.declared.answers.Finding.{Finding}
 use Rattle.ck_registry.specs.declared.answers.Finding.TheVariants.{AllInactive, AllCurrent, OneBehind}
+use Rattle.ck_registry.specs.declared.answers.Scan.{Scan}
 use Rattle.ck_registry.specs.declared.answers.Scan.TheVariants.{Clear, Blocked, Ready}
 use Rattle.ck_registry.specs.State.{Token, TokenState, records_of, state}
 use Rattle.ck_registry.specs.Deferred.{Deferred, items_of}
@@ -101,3 +102,8 @@ module _ (t u : Token) (e : ℕ) where
         count = all_count t b b' are list low is w b'' none w' n m count count';
         activity = ap (λ (x : TokenState). x.activity) h.at.state;
       }
+
+-- the same told of the member and of the registry as contracts see them
+pub told_scan : {m v : Member} {now : Table ℕ} → m ≡ v → table v.token ≡ now → (e : ℕ) (answer : Scan) (n : Member) → IsScan (records_of (origin m.token)) e m answer n → IsScan (records_of now.origin) e v answer n
+told_scan {m} {v} {now} view same e answer n is = subst (λ (x : Member). IsScan (records_of now.origin) e x answer n) view
+    (subst (λ (k : ℕ). IsScan k e m answer n) (ap (λ (x : Member). records_of (origin x.token)) view ∙ ap (λ (x : Table ℕ). records_of x.origin) same) is)

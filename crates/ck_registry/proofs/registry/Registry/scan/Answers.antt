@@ -1,11 +1,10 @@
-use Rattle.std.proofs.Common.{◌≡◌, ℕ, ◌+◌, ap, ◌∙◌, subst, arith}
-use Rattle.ck_run.specs.Tokens.{Table, table, number}
+use Rattle.std.proofs.Common.{◌+◌, ap, ◌∙◌, arith}
+use Rattle.ck_run.specs.Tokens.{table, number}
 use Rattle.ck_registry.specs.declared.answers.Finding.TheVariants.{AllInactive, AllCurrent, OneBehind}
 use Rattle.ck_registry.specs.declared.answers.Scan.TheVariants.{Clear, Blocked, Ready}
-use Rattle.ck_registry.specs.State.{state, records_of}
+use Rattle.ck_registry.specs.State.{state}
 use Rattle.ck_registry.specs.Ends.{Member, rec_of}
-use Rattle.ck_registry.specs.Calls.{IsScan}
-use Rattle.ck_registry.proofs.Scanned.{scan_holder, scan_rec, scan_section, scan_calls, scan_number, ready_scan, blocked_scan, clear_scan, ready_deferred, blocked_deferred, clear_deferred}
+use Rattle.ck_registry.proofs.Scanned.{scan_holder, scan_rec, scan_section, scan_calls, scan_number, ready_scan, blocked_scan, clear_scan, ready_deferred, blocked_deferred, clear_deferred, told_scan}
 use Rattle.ck_registry.proofs.registry.Registry.scan.Goals as goal
 
 pub invariant_of-m : goal.invariant_of-m
@@ -41,40 +40,25 @@ invariant_of-m-in-OneBehind c =
 pub returns-in-AllInactive-clause-scan : goal.returns-in-AllInactive-clause-scan
 returns-in-AllInactive-clause-scan c =
     let t = c.m.inside.token in let u = c.look_at_all.new.token in let e = c.start_scan-epoch.result in let b = c.m.inside.deferred in let first = c.dispatch_list-before in let rest = c.dispatch_all-rest in
-    let s = c.in-AllInactive.ensures.outcome t c.start_scan-epoch.ensures.scanning in
-    let here : table t ≡ c.args.self.now = ap (λ (m : Member). table m.token) c.m.view_is ∙ c.requires.table in
-    let old : Member = record { token = t; calls = c.m.inside.calls; waiting = b.waiting; room = b.room } in
-    let new : Member = record { token = u; calls = c.m.inside.calls + 1; waiting = rest.new.self.waiting; room = rest.new.self.room } in (
+    let s = c.in-AllInactive.ensures.outcome t c.start_scan-epoch.ensures.scanning in (
       e,
-      subst (λ (m : Member). IsScan (records_of c.args.self.now.origin) e m (Clear (first.result + rest.result)) new) c.m.view_is
-          (subst (λ (k : ℕ). IsScan k e old (Clear (first.result + rest.result)) new) (ap (λ (x : Table ℕ). records_of x.origin) here)
-          (clear_scan t u e c.start_scan-epoch.ensures.late b first.new.self c.m.invariant.1 first.ensures.lists first.ensures.waiting c.m.inside.calls (c.m.inside.calls + 1) b.room rest.new.self.room s rest.new.self rest.ensures.lists rest.ensures.waiting first.result rest.result first.ensures.count rest.ensures.count)),
+      told_scan c.m.view_is c.requires.table e (Clear (first.result + rest.result)) _ (clear_scan t u e c.start_scan-epoch.ensures.late b first.new.self c.m.invariant.1 first.ensures.lists first.ensures.waiting c.m.inside.calls (c.m.inside.calls + 1) b.room rest.new.self.room s rest.new.self rest.ensures.lists rest.ensures.waiting first.result rest.result first.ensures.count rest.ensures.count),
     )
 
 pub returns-in-AllCurrent-clause-scan : goal.returns-in-AllCurrent-clause-scan
 returns-in-AllCurrent-clause-scan c =
     let t = c.m.inside.token in let u = c.look_at_all.new.token in let e = c.start_scan-epoch.result in let b = c.m.inside.deferred in let first = c.dispatch_list-before in
-    let s = c.in-AllCurrent.ensures.outcome t c.start_scan-epoch.ensures.scanning in
-    let here : table t ≡ c.args.self.now = ap (λ (m : Member). table m.token) c.m.view_is ∙ c.requires.table in
-    let old : Member = record { token = t; calls = c.m.inside.calls; waiting = b.waiting; room = b.room } in
-    let new : Member = record { token = u; calls = c.m.inside.calls + 1; waiting = first.new.self.waiting; room = first.new.self.room } in (
+    let s = c.in-AllCurrent.ensures.outcome t c.start_scan-epoch.ensures.scanning in (
       e,
-      subst (λ (m : Member). IsScan (records_of c.args.self.now.origin) e m (Ready first.result c.in-AllCurrent.rec e) new) c.m.view_is
-          (subst (λ (k : ℕ). IsScan k e old (Ready first.result c.in-AllCurrent.rec e) new) (ap (λ (x : Table ℕ). records_of x.origin) here)
-          (ready_scan t u e c.start_scan-epoch.ensures.late b first.new.self c.m.invariant.1 first.ensures.lists first.ensures.waiting c.m.inside.calls (c.m.inside.calls + 1) b.room first.new.self.room first.result first.ensures.count c.in-AllCurrent.rec s)),
+      told_scan c.m.view_is c.requires.table e (Ready first.result c.in-AllCurrent.rec e) _ (ready_scan t u e c.start_scan-epoch.ensures.late b first.new.self c.m.invariant.1 first.ensures.lists first.ensures.waiting c.m.inside.calls (c.m.inside.calls + 1) b.room first.new.self.room first.result first.ensures.count c.in-AllCurrent.rec s),
     )
 
 pub returns-in-OneBehind-clause-scan : goal.returns-in-OneBehind-clause-scan
 returns-in-OneBehind-clause-scan c =
     let t = c.m.inside.token in let u = c.look_at_all.new.token in let e = c.start_scan-epoch.result in let b = c.m.inside.deferred in let first = c.dispatch_list-before in
-    let s = c.in-OneBehind.ensures.outcome t c.start_scan-epoch.ensures.scanning in
-    let here : table t ≡ c.args.self.now = ap (λ (m : Member). table m.token) c.m.view_is ∙ c.requires.table in
-    let old : Member = record { token = t; calls = c.m.inside.calls; waiting = b.waiting; room = b.room } in
-    let new : Member = record { token = u; calls = c.m.inside.calls + 1; waiting = first.new.self.waiting; room = first.new.self.room } in (
+    let s = c.in-OneBehind.ensures.outcome t c.start_scan-epoch.ensures.scanning in (
       e,
-      subst (λ (m : Member). IsScan (records_of c.args.self.now.origin) e m (Blocked first.result c.in-OneBehind.rec c.in-OneBehind.epoch) new) c.m.view_is
-          (subst (λ (k : ℕ). IsScan k e old (Blocked first.result c.in-OneBehind.rec c.in-OneBehind.epoch) new) (ap (λ (x : Table ℕ). records_of x.origin) here)
-          (blocked_scan t u e c.start_scan-epoch.ensures.late b first.new.self c.m.invariant.1 first.ensures.lists first.ensures.waiting c.m.inside.calls (c.m.inside.calls + 1) b.room first.new.self.room first.result first.ensures.count c.in-OneBehind.rec c.in-OneBehind.epoch s)),
+      told_scan c.m.view_is c.requires.table e (Blocked first.result c.in-OneBehind.rec c.in-OneBehind.epoch) _ (blocked_scan t u e c.start_scan-epoch.ensures.late b first.new.self c.m.invariant.1 first.ensures.lists first.ensures.waiting c.m.inside.calls (c.m.inside.calls + 1) b.room first.new.self.room first.result first.ensures.count c.in-OneBehind.rec c.in-OneBehind.epoch s),
     )
 
 pub returns-in-AllInactive-clause-same : goal.returns-in-AllInactive-clause-same
