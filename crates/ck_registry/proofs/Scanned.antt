@@ -10,7 +10,7 @@ use Rattle.ck_registry.specs.declared.answers.Scan.{Scan}
 use Rattle.ck_registry.specs.declared.answers.Scan.TheVariants.{Clear, Blocked, Ready}
 use Rattle.ck_registry.specs.State.{Token, TokenState, records_of, state}
 use Rattle.ck_registry.specs.Deferred.{Deferred, items_of}
-use Rattle.ck_registry.specs.Ends.{Member, IsIdle, IsHolder, AreDeferred}
+use Rattle.ck_registry.specs.Ends.{Member, IsIdle, IsHolder, AreDeferred, rec_of}
 use Rattle.ck_registry.specs.Calls.{IsScan}
 use Rattle.ck_registry.specs.Scan.{after_finding, HasScanned}
 use Rattle.ck_registry.proofs.Stepping.{Went, holder_after}
@@ -32,17 +32,8 @@ module _ (t u : Token) (e : ℕ) where
   pub scan_holder : (f : Finding) (rec d : ℕ) → HasScanned t u e f → IsHolder t rec d → IsHolder u rec d
   scan_holder f rec d s h = let k = leaves e (state t) f in holder_after t u _ rec d d (scan_went f s) h k.3 k.0 (h.section.0, k.1 ∙ h.section.1)
 
-  pub scan_rec : (f : Finding) → HasScanned t u e f → (state u).rec ≡ (state t).rec
-  scan_rec f s = ap (λ (x : TokenState). x.rec) s.at.state ∙ (leaves e (state t) f).0
-
-  pub scan_section : (f : Finding) → HasScanned t u e f → (state u).section ≡ (state t).section
-  scan_section f s = ap (λ (x : TokenState). x.section) s.at.state ∙ (leaves e (state t) f).1
-
-  pub scan_calls : (f : Finding) → HasScanned t u e f → (state u).calls ≡ (state t).calls + 1
-  scan_calls f s = ap (λ (x : TokenState). x.calls) s.at.state ∙ (leaves e (state t) f).2
-
-  pub scan_number : (f : Finding) → HasScanned t u e f → number u ≡ number t
-  scan_number f s = (scan_went f s).number
+  pub scan_counts : (f : Finding) (k : ℕ) → HasScanned t u e f → (state t).calls ≤ k → (state u).calls ≤ k + 1
+  scan_counts f k s few = let c = ap (λ (x : TokenState). x.calls) s.at.state ∙ (leaves e (state t) f).2 in omega arith
 
   -- the list of e - 2 was dispatched first
   module _ (late : 4 ≤ e) (b b' : Deferred) (are : AreDeferred t b) (is : IsEmptied ((e - 2) % 4) b.lists b'.lists) (w : b'.waiting ≡ b.waiting ++ items_of (items_on b.lists ((e - 2) % 4))) (calls calls' room room' : ℕ) where
@@ -103,7 +94,19 @@ module _ (t u : Token) (e : ℕ) where
         activity = ap (λ (x : TokenState). x.activity) h.at.state;
       }
 
--- the same told of the member and of the registry as contracts see them
-pub told_scan : {m v : Member} {now : Table ℕ} → m ≡ v → table v.token ≡ now → (e : ℕ) (answer : Scan) (n : Member) → IsScan (records_of (origin m.token)) e m answer n → IsScan (records_of now.origin) e v answer n
-told_scan {m} {v} {now} view same e answer n is = subst (λ (x : Member). IsScan (records_of now.origin) e x answer n) view
-    (subst (λ (k : ℕ). IsScan k e m answer n) (ap (λ (x : Member). records_of (origin x.token)) view ∙ ap (λ (x : Table ℕ). records_of x.origin) same) is)
+-- The same told of the member and of the registry as contracts see them
+module _ {m v : Member} (view : m ≡ v) where
+  pub told_same : (u : Token) (e : ℕ) (f : Finding) (room : ℕ) → HasScanned m.token u e f → table u ≡ table m.token → room ≡ m.room → (table u ≡ table v.token) × (number u ≡ number v.token) × (rec_of u ≡ rec_of v.token) × (room ≡ v.room)
+  told_same u e f room h same kept = (
+    same ∙ ap (λ (x : Member). table x.token) view,
+    (scan_went m.token u e f h).number ∙ ap (λ (x : Member). number x.token) view,
+    ap (λ (x : TokenState). x.rec) h.at.state ∙ ((leaves e (state m.token) f).0 ∙ ap (λ (x : Member). rec_of x.token) view),
+    kept ∙ ap (λ (x : Member). x.room) view,
+  )
+
+  pub told_section : (u : Token) (e : ℕ) (f : Finding) → HasScanned m.token u e f → (state u).section ≡ (state v.token).section
+  told_section u e f h = ap (λ (x : TokenState). x.section) h.at.state ∙ ((leaves e (state m.token) f).1 ∙ ap (λ (x : Member). (state x.token).section) view)
+
+  pub told_scan : {now : Table ℕ} → table v.token ≡ now → (e : ℕ) (answer : Scan) (n : Member) → IsScan (records_of (origin m.token)) e m answer n → IsScan (records_of now.origin) e v answer n
+  told_scan {now} same e answer n is = subst (λ (x : Member). IsScan (records_of now.origin) e x answer n) view
+      (subst (λ (k : ℕ). IsScan k e m answer n) (ap (λ (x : Member). records_of (origin x.token)) view ∙ ap (λ (x : Table ℕ). records_of x.origin) same) is)
