@@ -254,8 +254,8 @@ have_ended client passes t u n all f same first is past rest more run made r o l
 
 -- the writer between two calls, before and after two rounds
 module _ {C : Type 0} (client : Client C) (t : Token C) (b : Backlog) (w : IsBetween client t b) where
-  pub is_free : (calls : ℕ) → (state t).calls ≤ calls → calls < 2 ^ 40 → IsWriterFree client t
-  is_free calls counts few = record { part = w.part; first = w.first; stage = w.stage; few = omega arith }
+  pub is_free : (state t).calls < 2 ^ 40 → IsWriterFree client t
+  is_free few = record { part = w.part; first = w.first; stage = w.stage; few = few }
 
   module _ (u : Token C) (all : Bool) (n : ℕ) (part : IsDomainToken client u) (same : table u ≡ table t) (number_is : number u ≡ number t) (is : state u ≡ after_rounds all (state t) n) where
     calls_after : (a : Bool) → (after_rounds a (state t) n).calls ≡ (state t).calls + 1
@@ -281,6 +281,5 @@ module _ {C : Type 0} (client : Client C) (t : Token C) (b : Backlog) (w : IsBet
     both_after c pending retired calls counts = (writer_after c pending retired, counts_more calls counts)
 
   -- after its steps the sections that were open have ended
-  pub ended_after : (passes : Passes client) (u : Token C) (all : Bool) (calls : ℕ) → (state t).calls ≤ calls → calls < 2 ^ 40 → (records name e : ℕ) → Rounds records name e t u
-      → state u ≡ after_rounds all (state t) (state u).steps → HaveEnded client t u
-  ended_after passes u all calls counts few records name e rounds is = have_ended client passes t u (state u).steps all (is_free calls counts few) (ap origin rounds.4) (ap number rounds.4 ∙ w.first) is
+  pub ended_after : (passes : Passes client) (u : Token C) (all : Bool) (records name e : ℕ) → (state t).calls < 2 ^ 40 → Rounds records name e t u → state u ≡ after_rounds all (state t) (state u).steps → HaveEnded client t u
+  ended_after passes u all records name e few rounds is = have_ended client passes t u (state u).steps all (is_free few) (ap origin rounds.4) (ap number rounds.4 ∙ w.first) is
