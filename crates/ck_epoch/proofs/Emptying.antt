@@ -1,4 +1,4 @@
--- The four lists of the writer's: an item is put on one of them, and one of them is emptied.
+-- The four lists of pending items: an item is put on one of them, one of them is emptied, and what was on it waits.
 use Rattle.std.proofs.Common.{◌≡◌, ◌≢◌, ℕ, zero, suc, ◌+◌, ◌%◌, ◌<◌, ◌≤◌, ◌==◌, Bool, true, false, cond, List, [], ◌∷◌, ◌++◌, map, vec_len, length, All, get_or, set, take, drop, slice_set, refl, sym, ap, ◌∙◌, subst, arith, eq-eqb, ne_eqb}
 use Rattle.std.specs.declared.vec.Vec.{Vec}
 use Rattle.std.specs.Vec.{with_item}
