@@ -9,8 +9,8 @@ use std::thread;
 use std::thread::Threads;
 
 /// How many lines a task prints at a time. A part of a report that has no more is printed in one task: a thread that is
-/// started costs as much as some thousand lines.
-const BLOCK: usize = 32768;
+/// started costs as much as about a thousand lines.
+const BLOCK: usize = 8192;
 
 /// How many lines one task prints before what is there is put.
 const FEW: usize = 64;
