@@ -8,7 +8,7 @@ use crate::{ListJob, run_over_list};
 use ck_history::{Edit, EditReply};
 use ck_io::OpenGate;
 use ck_pool::Job;
-use ck_script::{AskLine, Lines, Numbered, UpLine};
+use ck_script::{AskLine, Lines, UpLine};
 use std::alloc::{AllocError, Global};
 use std::test::Fail;
 
@@ -18,40 +18,21 @@ fn held_job(alloc: Global) -> Result<ListJob, AllocError>
     ensures lines { IfOk result (λ job. line_total job.ups.items (map (λ file. file.items) job.asks.items) ≤ most_job_lines) }
     ensures ranges { IfOk result (λ job. range_fault job.ups.items (map (λ file. file.items) job.asks.items) ≡ None) }
 {
-    let mut ups = Lines::new(alloc);
-    ups.push(Numbered {
-        line: 1,
-        what: UpLine::Call(Edit::Add(3)),
-    })?;
-    ups.push(Numbered {
-        line: 2,
-        what: UpLine::Call(Edit::Add(4)),
-    })?;
-    ups.push(Numbered {
-        line: 3,
-        what: UpLine::Call(Edit::Drop(3)),
-    })?;
-    ups.push(Numbered {
-        line: 4,
-        what: UpLine::Hold { file: 1, n: 1 },
-    })?;
-    ups.push(Numbered {
-        line: 5,
-        what: UpLine::Call(Edit::Commit),
-    })?;
-    let mut lines = Lines::new(alloc);
-    lines.push(Numbered {
-        line: 1,
-        what: AskLine::Ask(()),
-    })?;
-    lines.push(Numbered {
-        line: 2,
-        what: AskLine::Wait { n: 4 },
-    })?;
-    lines.push(Numbered {
-        line: 3,
-        what: AskLine::Ask(()),
-    })?;
+    let ups = Lines::numbered(
+        alloc,
+        [
+            UpLine::Call(Edit::Add(3)),
+            UpLine::Call(Edit::Add(4)),
+            UpLine::Call(Edit::Drop(3)),
+            UpLine::Hold { file: 1, n: 1 },
+            UpLine::Call(Edit::Commit),
+        ]
+        .as_slice(),
+    )?;
+    let lines = Lines::numbered(
+        alloc,
+        [AskLine::Ask(()), AskLine::Wait { n: 4 }, AskLine::Ask(())].as_slice(),
+    )?;
     let mut asks = Vec::new(alloc);
     asks.push(lines)?;
     Ok(Job { ups, asks })

@@ -9,7 +9,7 @@ use crate::run_over_table;
 use ck_history::{Key, Reply, Update};
 use ck_io::OpenGate;
 use ck_pool::{Job, MapJob, MapResults};
-use ck_script::{AskLine, Lines, Numbered, UpLine};
+use ck_script::{AskLine, Lines, UpLine};
 use std::alloc::{AllocError, Global};
 use std::sync::Wait;
 use std::test::Fail;
@@ -22,36 +22,25 @@ fn held_job(alloc: Global, last: Update<Key>) -> Result<MapJob, AllocError>
     ensures ranges { IfOk result (λ job. range_fault job.ups.items (map (λ file. file.items) job.asks.items) ≡ None) }
 {
     let key = Key::new(1).unwrap();
-    let mut ups = Lines::new(alloc);
-    ups.push(Numbered {
-        line: 1,
-        what: UpLine::Call(Update::Set(key, 10)),
-    })?;
-    ups.push(Numbered {
-        line: 2,
-        what: UpLine::Hold { file: 1, n: 1 },
-    })?;
-    ups.push(Numbered {
-        line: 3,
-        what: UpLine::Call(last),
-    })?;
-    let mut lines = Lines::new(alloc);
-    lines.push(Numbered {
-        line: 1,
-        what: AskLine::Wait { n: 1 },
-    })?;
-    lines.push(Numbered {
-        line: 2,
-        what: AskLine::Ask(key),
-    })?;
-    lines.push(Numbered {
-        line: 3,
-        what: AskLine::Wait { n: 2 },
-    })?;
-    lines.push(Numbered {
-        line: 4,
-        what: AskLine::Ask(key),
-    })?;
+    let ups = Lines::numbered(
+        alloc,
+        [
+            UpLine::Call(Update::Set(key, 10)),
+            UpLine::Hold { file: 1, n: 1 },
+            UpLine::Call(last),
+        ]
+        .as_slice(),
+    )?;
+    let lines = Lines::numbered(
+        alloc,
+        [
+            AskLine::Wait { n: 1 },
+            AskLine::Ask(key),
+            AskLine::Wait { n: 2 },
+            AskLine::Ask(key),
+        ]
+        .as_slice(),
+    )?;
     let mut asks = Vec::new(alloc);
     asks.push(lines)?;
     Ok(Job { ups, asks })
@@ -65,41 +54,28 @@ fn waiting_job(alloc: Global) -> Result<MapJob, AllocError>
 {
     let low = Key::new(80).unwrap();
     let high = Key::new(443).unwrap();
-    let mut ups = Lines::new(alloc);
-    ups.push(Numbered {
-        line: 1,
-        what: UpLine::Call(Update::Set(low, 1)),
-    })?;
-    ups.push(Numbered {
-        line: 2,
-        what: UpLine::Call(Update::Set(high, 2)),
-    })?;
-    ups.push(Numbered {
-        line: 3,
-        what: UpLine::Call(Update::Del(low)),
-    })?;
-    let mut first = Lines::new(alloc);
-    first.push(Numbered {
-        line: 1,
-        what: AskLine::Wait { n: 3 },
-    })?;
-    first.push(Numbered {
-        line: 2,
-        what: AskLine::Ask(low),
-    })?;
-    first.push(Numbered {
-        line: 3,
-        what: AskLine::Ask(high),
-    })?;
-    let mut second = Lines::new(alloc);
-    second.push(Numbered {
-        line: 1,
-        what: AskLine::Wait { n: 3 },
-    })?;
-    second.push(Numbered {
-        line: 2,
-        what: AskLine::Ask(high),
-    })?;
+    let ups = Lines::numbered(
+        alloc,
+        [
+            UpLine::Call(Update::Set(low, 1)),
+            UpLine::Call(Update::Set(high, 2)),
+            UpLine::Call(Update::Del(low)),
+        ]
+        .as_slice(),
+    )?;
+    let first = Lines::numbered(
+        alloc,
+        [
+            AskLine::Wait { n: 3 },
+            AskLine::Ask(low),
+            AskLine::Ask(high),
+        ]
+        .as_slice(),
+    )?;
+    let second = Lines::numbered(
+        alloc,
+        [AskLine::Wait { n: 3 }, AskLine::Ask(high)].as_slice(),
+    )?;
     let mut asks = Vec::new(alloc);
     asks.push(first)?;
     asks.push(second)?;

@@ -233,11 +233,7 @@ fn small_job(alloc: Global, waits: bool) -> Result<MapJob, AllocError>
     ensures ranges { IfOk result (λ job. range_fault job.ups.items (map (λ file. file.items) job.asks.items) ≡ None) }
 {
     let key = Key::new(1).unwrap();
-    let mut ups = Lines::new(alloc);
-    ups.push(Numbered {
-        line: 1,
-        what: UpLine::Call(Update::Set(key, 5)),
-    })?;
+    let ups = Lines::numbered(alloc, [UpLine::Call(Update::Set(key, 5))].as_slice())?;
     let mut lines = Lines::new(alloc);
     if waits {
         lines.push(Numbered {
@@ -261,29 +257,19 @@ fn crossed_job(alloc: Global) -> Result<MapJob, AllocError>
     ensures ranges { IfOk result (λ job. range_fault job.ups.items (map (λ file. file.items) job.asks.items) ≡ None) }
 {
     let key = Key::new(1).unwrap();
-    let mut ups = Lines::new(alloc);
-    ups.push(Numbered {
-        line: 1,
-        what: UpLine::Hold { file: 2, n: 1 },
-    })?;
-    ups.push(Numbered {
-        line: 2,
-        what: UpLine::Call(Update::Set(key, 5)),
-    })?;
-    let mut first = Lines::new(alloc);
-    first.push(Numbered {
-        line: 1,
-        what: AskLine::Wait { n: 1 },
-    })?;
-    first.push(Numbered {
-        line: 2,
-        what: AskLine::Ask(key),
-    })?;
-    let mut second = Lines::new(alloc);
-    second.push(Numbered {
-        line: 1,
-        what: AskLine::Ask(key),
-    })?;
+    let ups = Lines::numbered(
+        alloc,
+        [
+            UpLine::Hold { file: 2, n: 1 },
+            UpLine::Call(Update::Set(key, 5)),
+        ]
+        .as_slice(),
+    )?;
+    let first = Lines::numbered(
+        alloc,
+        [AskLine::Wait { n: 1 }, AskLine::Ask(key)].as_slice(),
+    )?;
+    let second = Lines::numbered(alloc, [AskLine::Ask(key)].as_slice())?;
     let mut asks = Vec::new(alloc);
     asks.push(first)?;
     asks.push(second)?;

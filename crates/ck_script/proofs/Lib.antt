@@ -11,3 +11,4 @@ mod Viewing
 mod Verbs
 mod Columns
 mod Keeping
+mod Numbering

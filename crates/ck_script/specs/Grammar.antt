@@ -141,7 +141,7 @@ module _ {K : Type 0} (spelling : K → List ℕ) where
 
 -- .. and these are keys
 module _ {K : Type 0} (IsKey : K → Type 0) where
-  -- keys are keys, and values have 64 bits
+  -- the key is one, and the value has 64 bits
   abbrev pub IsMapCall : Update K → Type 0
   IsMapCall (Set k v) = IsKey k × (v < 2 ^ 64)
   IsMapCall (Put k v) = IsKey k × (v < 2 ^ 64)

@@ -15,6 +15,11 @@ use Rattle.ck_script.specs.ListGrammar.{IsEditLine, edit_words, IsViewLine, view
 abbrev pub said_of : {L : Type 0} → List (Numbered L) → List L
 said_of lines = map (λ l. l.what) lines
 
+-- lines that say this, numbered from `line` on
+abbrev pub numbered : {L : Type 0} → ℕ → List L → List (Numbered L)
+numbered line [] = []
+numbered line (what ∷ more) = record { line = line; what = what } ∷ numbered (line + 1) more
+
 -- the updates, in order
 abbrev pub updates : {C : Type 0} → List (UpLine C) → List C
 updates [] = []

@@ -22,6 +22,6 @@ module _ {A : Type 0} where
   query_places f [] = []
   query_places f (asks ∷ more) = map (λ line. record { file = f; line = line }) (query_lines asks) ++ query_places (f + 1) more
 
-  -- the query that as many stand before as a run may have
+  -- the first query that is one too many: as many as a run may have stand before it
   abbrev pub many_fault : List (List (Numbered (AskLine A))) → Option RangeFault
   many_fault asks = slice_get (query_places 1 asks) MOST_VIEWS

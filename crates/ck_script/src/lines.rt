@@ -1,5 +1,6 @@
 //! The lines of a file in little room.
-ghost use Rattle.std.specs.Prelude.{◌≡◌, ◌++◌, ◌∷◌, [], OnOk, OnErr};
+ghost use Rattle.std.specs.Prelude.{◌≡◌, ◌++◌, ◌∷◌, [], IfOk, OnOk, OnErr};
+ghost use Rattle.ck_script.specs.Script.{numbered};
 
 use crate::compact::CompactLine;
 use crate::line::Numbered;
@@ -33,6 +34,20 @@ impl<L: CompactLine> Lines<L> {
         Lines {
             rows: Rows::new(alloc),
         }
+    }
+
+    /// Lines that say this, numbered from 1 on: those of a file without empty lines and comments.
+    pub fn numbered(alloc: Global, said: &[L]) -> Result<Lines<L>, AllocError>
+        ensures { IfOk result (λ lines. lines.items ≡ numbered 1 said.now) }
+    {
+        let mut lines = Lines::new(alloc);
+        for (i, what) in said.iter().enumerate() {
+            lines.push(Numbered {
+                line: i as u64 + 1,
+                what: *what,
+            })?;
+        }
+        Ok(lines)
     }
 
     /// Adds a line at the end. An `AllocError` leaves the lines as they were.

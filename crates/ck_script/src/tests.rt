@@ -205,10 +205,8 @@ fn lines_that_ask_for_too_much(rt: HostRuntime) -> Result<(), Fail> {
         ),
     ];
     for (what, asked, range, circle) in cases {
-        let said = [(1, what[0]), (2, what[1]), (3, what[2])];
-        let ups = numbered(alloc, said.as_slice())?;
-        let said = [(1, asked[0]), (2, asked[1])];
-        let asks = [numbered(alloc, said.as_slice())?];
+        let ups = Lines::numbered(alloc, what.as_slice())?;
+        let asks = [Lines::numbered(alloc, asked.as_slice())?];
         assert_eq!(rt;
             check_ranges(&ups, asks.as_slice()).map(|x| (x.file, x.line)),
             range
@@ -271,6 +269,10 @@ fn lines_are_kept_in_rows(rt: HostRuntime) -> Result<(), Fail> {
         (4, AskLine::Ask(wide)),
     ];
     let asks = numbered(alloc, asked.as_slice())?;
+    let counted = Lines::numbered(alloc, [AskLine::Ask(short), AskLine::Ask(wide)].as_slice())?;
+    assert_eq!(rt; counted.len(), 2);
+    assert_eq!(rt; counted.get(1).line, 2);
+    assert_eq!(rt; counted.what(1), AskLine::Ask(wide));
     for (i, (line, what)) in asked.iter().enumerate() {
         assert!(rt; i < asks.len());
         assert_eq!(rt;
