@@ -1,5 +1,5 @@
 -- Where a job's lines were run over a dictionary that is a map, and the places of its answers are known, the results are legal.
-use Rattle.std.proofs.Common.{◌≡◌, ℕ, ◌+◌, ◌≤◌, List, [], ◌∷◌, length, map, Option, sym, ap, subst, ◌∙◌, zero-add, arith}
+use Rattle.std.proofs.Common.{◌≡◌, ℕ, List, [], length, map, Option, sym, ap, subst, ◌∙◌, zero-add, arith}
 use Rattle.std.proofs.lemmas.List.{take_all}
 use Rattle.std.specs.Ordering.{nat_cmp}
 use Rattle.ck_history.specs.declared.event.WriterEvent.{WriterEvent}

@@ -15,7 +15,6 @@ use Rattle.ck_script.specs.Script.{said_of, updates, queries}
 use Rattle.ck_script.specs.Checks.{is_hold_beyond, first_fault, first_wait_beyond, range_fault}
 use Rattle.ck_pool.specs.Limits.{most_query_files}
 use Rattle.ck_pool.specs.declared.query_run.QueryRun.{QueryRun}
-use Rattle.ck_history.specs.declared.event.WriterEvent.{WriterEvent}
 use Rattle.ck_pool.specs.Meaning.{HandMeaning, EyeMeaning}
 use Rattle.ck_pool.specs.Runs.{HoldsReader, HoldReaders}
 use Rattle.ck_pool.specs.Served.{LineFits, WillFit, AreServed, AreInOrder, AreReady, lines_of}

@@ -1,5 +1,5 @@
 -- A job over a snapshot dictionary whose passes are tied to its writer has legal answers.
-use Rattle.std.proofs.Common.{◌≡◌, ℕ, zero, suc, ◌+◌, ◌≤◌, List, [], ◌∷◌, ◌++◌, length, map, Option, Some, None, refl, sym, ap, subst, ◌∙◌, zero-add, arith}
+use Rattle.std.proofs.Common.{◌≡◌, ℕ, zero, suc, ◌+◌, ◌≤◌, List, [], ◌∷◌, ◌++◌, length, map, Option, Some, None, refl, sym, ap, subst, ◌∙◌, arith}
 use Rattle.std.specs.Ordering.{nat_cmp}
 use Rattle.ck_history.specs.declared.event.WriterEvent.TheVariants.{Updated, Told}
 use Rattle.ck_history.specs.declared.log.Look.TheVariants.{Found, Absent}

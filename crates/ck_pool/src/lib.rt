@@ -18,6 +18,7 @@ mod shortage;
 #[cfg(test)]
 mod tests;
 mod updates;
+mod waiting;
 mod worker;
 
 pub use dict::Dict;

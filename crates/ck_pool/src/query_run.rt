@@ -8,8 +8,8 @@ use crate::context::Context;
 use crate::desk::{Clerk, Desk};
 use crate::dict::Dict;
 use crate::query_lines::{retry_wait, run_from};
+use crate::waiting::Waiting;
 use ck_io::Gate;
-use crossbeam_utils::Backoff;
 use std::alloc::AllocError;
 use std::sync::Wait;
 
@@ -106,13 +106,13 @@ pub fn finish<D: Dict, G: Gate, R: Wait>(
     ensures run { IfOk result (λ r. IsQueryRun (D.eyes context.now.dict.now) desk.now.eyes (map D.AskFile.items asks.now) r) }
     ensures ended { IfOk result (λ r. r.waits_at ≡ None) }
 {
-    let backoff = Backoff::new();
+    let mut waiting = Waiting::new();
     let mut run = run;
     for _ in context.rt.forever() {
         if run.waits_at.is_none() {
             return Ok(run);
         }
-        backoff.snooze();
+        waiting.turn(context.rt);
         run = load_again(context, desk, asks, run)?;
     }
     unreachable!()

@@ -7,9 +7,9 @@ ghost use Rattle.ck_pool.specs.Served.{IsUpdateFileServed, LineFits, WillFit};
 
 use crate::context::Context;
 use crate::dict::Dict;
+use crate::waiting::Waiting;
 use ck_io::Gate;
 use ck_script::{LineList, UpLine};
-use crossbeam_utils::Backoff;
 use std::alloc::AllocError;
 use std::sync::Wait;
 
@@ -28,7 +28,7 @@ fn hold_for<D: Dict, G: Gate, R: Wait>(
         × ((D.hands context.now.dict.now).done hand.new ≡ (D.hands context.now.dict.now).done hand.old ++ (answer_loads reader counts ++ answer_loads reader (k ∷ [])))
         × All (λ m. m < n) counts × (n ≤ k)) }
 {
-    let backoff = Backoff::new();
+    let mut waiting = Waiting::new();
     for _ in context.rt.forever() {
         if context.dict.answered(hand, reader) >= n {
             return Ok(());
@@ -36,7 +36,7 @@ fn hold_for<D: Dict, G: Gate, R: Wait>(
         if context.shortage.is_raised() {
             return Err(AllocError);
         }
-        backoff.snooze();
+        waiting.turn(context.rt);
     }
     unreachable!()
 }

@@ -9,9 +9,9 @@ use crate::context::Context;
 use crate::desk::{Clerk, Desk};
 use crate::dict::Dict;
 use crate::query_run::{QueryRun, load_again, start};
+use crate::waiting::Waiting;
 use ck_io::Gate;
 use ck_ring::{Consumer, Ring, Take};
-use crossbeam_utils::Backoff;
 use std::alloc::AllocError;
 use std::sync::Wait;
 
@@ -148,7 +148,7 @@ fn finish_all<D: Dict, G: Gate, R: Wait>(
     ensures each { IfOk result (λ v. AreEnded (D.eyes context.now.dict.now) desk.now.eyes (map D.AskFile.items asks.now) v.items) }
     ensures all { IfOk result (λ v. (f : ℕ) → runs_of f v.items ≡ runs_of f runs.items) }
 {
-    let backoff = Backoff::new();
+    let mut waiting = Waiting::new();
     let mut runs = runs;
     let mut others = Vec::new(context.alloc);
     for _ in context.rt.forever() {
@@ -159,7 +159,7 @@ fn finish_all<D: Dict, G: Gate, R: Wait>(
         if context.shortage.is_raised() {
             return Err(AllocError);
         }
-        backoff.snooze();
+        waiting.turn(context.rt);
         load_all(context, desk, asks, &mut runs, &mut others)?;
         std::mem::swap(&mut runs, &mut others);
     }

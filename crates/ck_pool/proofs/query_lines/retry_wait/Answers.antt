@@ -1,4 +1,4 @@
-use Rattle.std.proofs.Common.{◌≡◌, ◌+◌, ◌<◌, ◌∙◌, [], ◌∷◌, ◌++◌, length, true, false, rules, sym, ap, subst, append_assoc, arith}
+use Rattle.std.proofs.Common.{◌≡◌, ◌∙◌, [], ◌∷◌, ◌++◌, true, false, rules, sym, ap, subst, append_assoc, arith}
 use Rattle.ck_script.specs.declared.line.AskLine.{AskLine}
 use Rattle.ck_pool.specs.Runs.{short_loads, QueryLineRan}
 use Rattle.ck_pool.proofs.Running.{get_lt, halts_again, resumes}

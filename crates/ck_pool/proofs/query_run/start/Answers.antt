@@ -1,5 +1,4 @@
-use Rattle.std.proofs.Common.{◌≡◌, Some, map}
-use Rattle.std.specs.Prelude.{slice_get}
+use Rattle.std.proofs.Common.{map}
 use Rattle.ck_pool.proofs.Running.{get_at, map_get}
 use Rattle.ck_pool.proofs.Files.{run_is}
 use Rattle.ck_pool.proofs.query_run.start.Goals as goal

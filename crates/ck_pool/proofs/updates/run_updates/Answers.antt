@@ -1,4 +1,4 @@
-use Rattle.std.proofs.Common.{◌≡◌, ◌+◌, ◌∙◌, [], ◌∷◌, ◌++◌, take, sym, ap, subst, append_assoc, arith}
+use Rattle.std.proofs.Common.{◌≡◌, ◌+◌, ◌∙◌, [], ◌∷◌, ◌++◌, take, ap, append_assoc, arith}
 use Rattle.ck_pool.proofs.Running.{updates_snoc, within_at}
 use Rattle.ck_pool.proofs.Files.{take_get}
 use Rattle.ck_pool.proofs.updates.run_updates.Goals as goal
