@@ -41,8 +41,8 @@ fn owned(alloc: Global, words: &[&str]) -> Result<Vec<String>, AllocError> {
     Ok(list)
 }
 
-// The same into a sink with room for every report here. Gives the outcome and what the sink took.
-fn ran<R: Threads + Wait + Sync>(
+// The same into a sink with room for every report here, which takes at most so many bytes a call. Gives the outcome and what the sink took.
+fn ran_with_faults<R: Threads + Wait + Sync>(
     rt: &R,
     alloc: Global,
     words: &[&str],
@@ -57,6 +57,17 @@ fn ran<R: Threads + Wait + Sync>(
     let outcome = ran_into(rt, alloc, words, files, shelf_fails, &mut sink)?;
     let taken = Vec::from_slice(alloc, sink.bytes())?;
     Ok((outcome, taken))
+}
+
+// The same where nothing fails.
+fn ran<R: Threads + Wait + Sync>(
+    rt: &R,
+    alloc: Global,
+    words: &[&str],
+    files: Vec<(String, Vec<u8>)>,
+) -> Result<(Outcome, Vec<u8>), AllocError> {
+    let (shelf_fails, sink_fails) = (Vec::new(alloc), Vec::new(alloc));
+    ran_with_faults(rt, alloc, words, files, shelf_fails, 65536, sink_fails)
 }
 
 // Files under one-letter names, from u on.
@@ -121,16 +132,7 @@ const REPORTS: &[(&[&str], &str)] = &[
 fn prints_reports(rt: HostRuntime) -> Result<(), Fail> {
     let alloc = rt.alloc();
     for (texts, report) in REPORTS {
-        let files = shelved(alloc, texts)?;
-        let (outcome, taken) = ran(
-            &rt,
-            alloc,
-            &["table", "u", "q"],
-            files,
-            Vec::new(alloc),
-            65536,
-            Vec::new(alloc),
-        )?;
+        let (outcome, taken) = ran(&rt, alloc, &["table", "u", "q"], shelved(alloc, texts)?)?;
         assert_eq!(rt; outcome, Outcome::Done);
         assert_eq!(rt; taken.as_slice(), report.as_bytes());
     }
@@ -245,16 +247,7 @@ const REFUSED: &[(&[&str], Outcome)] = &[
 fn refuses_with_the_cause(rt: HostRuntime) -> Result<(), Fail> {
     let alloc = rt.alloc();
     for (texts, refusal) in REFUSED {
-        let files = shelved(alloc, texts)?;
-        let (outcome, taken) = ran(
-            &rt,
-            alloc,
-            &["table", "u", "q"],
-            files,
-            Vec::new(alloc),
-            65536,
-            Vec::new(alloc),
-        )?;
+        let (outcome, taken) = ran(&rt, alloc, &["table", "u", "q"], shelved(alloc, texts)?)?;
         assert_eq!(rt; outcome, *refusal);
         assert!(rt; taken.is_empty());
     }
@@ -317,9 +310,6 @@ fn large_files_are_read_side_by_side(rt: HostRuntime) -> Result<(), Fail> {
             alloc,
             &["table", "--workers", "2", "u", "q", "r"],
             files,
-            Vec::new(alloc),
-            65536,
-            Vec::new(alloc),
         )?;
         assert_eq!(rt; outcome, *expected);
         assert_eq!(rt; taken.is_empty(), *expected != Outcome::Done);
@@ -334,7 +324,15 @@ fn puts_nothing_for_words_that_are_not_of_the_form(rt: HostRuntime) -> Result<()
     for words in cases {
         let files = shelved(alloc, &["set 7 10\n", "get 7\n"])?;
         let fails = vec![in alloc; 1u64]?;
-        let (outcome, taken) = ran(&rt, alloc, words, files, fails, 65536, Vec::new(alloc))?;
+        let (outcome, taken) = ran_with_faults(
+            &rt,
+            alloc,
+            words,
+            files,
+            fails,
+            65536,
+            Vec::new(alloc),
+        )?;
         assert_eq!(rt; outcome, Outcome::Usage);
         assert!(rt; taken.is_empty());
     }
@@ -360,17 +358,8 @@ const TWO_REPORT: &[u8] =
 fn answers_two_files(rt: HostRuntime) -> Result<(), Fail> {
     let alloc = rt.alloc();
     for workers in ["--workers=1", "--workers=2", "--workers=16"] {
-        let files = shelved(alloc, TWO)?;
         let words = ["table", workers, "u", "q", "r"];
-        let (outcome, taken) = ran(
-            &rt,
-            alloc,
-            &words,
-            files,
-            Vec::new(alloc),
-            65536,
-            Vec::new(alloc),
-        )?;
+        let (outcome, taken) = ran(&rt, alloc, &words, shelved(alloc, TWO)?)?;
         assert_eq!(rt; outcome, Outcome::Done);
         assert_eq!(rt; taken.as_slice(), TWO_REPORT);
     }
@@ -383,7 +372,7 @@ fn names_the_file_that_fails(rt: HostRuntime) -> Result<(), Fail> {
     for call in 1..4u64 {
         let files = shelved(alloc, TWO)?;
         let fails = vec![in alloc; call]?;
-        let (outcome, taken) = ran(
+        let (outcome, taken) = ran_with_faults(
             &rt,
             alloc,
             &["table", "u", "q", "r"],
@@ -405,7 +394,7 @@ fn keeps_what_was_put_before_a_fault(rt: HostRuntime) -> Result<(), Fail> {
     for call in 1..15usize {
         let files = shelved(alloc, TWO)?;
         let fails = vec![in alloc; call as u64]?;
-        let (outcome, taken) = ran(
+        let (outcome, taken) = ran_with_faults(
             &rt,
             alloc,
             &["table", "u", "q", "r"],
@@ -444,15 +433,7 @@ fn refuses_files_past_a_limit(rt: HostRuntime) -> Result<(), Fail> {
     for (byte, count) in [(b'#', 33554433usize), (b'\n', 1000001)] {
         let mut files = Vec::new(alloc);
         files.push((String::from_str(alloc, "u")?, vec![in alloc; byte; count]?))?;
-        let (outcome, taken) = ran(
-            &rt,
-            alloc,
-            &["table", "u", "q"],
-            files,
-            Vec::new(alloc),
-            65536,
-            Vec::new(alloc),
-        )?;
+        let (outcome, taken) = ran(&rt, alloc, &["table", "u", "q"], files)?;
         assert_eq!(rt; outcome, Outcome::TooLarge { file: 0 });
         assert!(rt; taken.is_empty());
     }
@@ -596,16 +577,7 @@ fn fetches_each_file_with_the_limit_of_one(rt: HostRuntime) -> Result<(), Fail> 
 fn names_the_first_of_two_files_that_are_not_held(rt: HostRuntime) -> Result<(), Fail> {
     let alloc = rt.alloc();
     for (words, file) in [(["table", "v", "w", "u"], 0), (["table", "u", "v", "w"], 1)] {
-        let files = shelved(alloc, &["set 7 10\n"])?;
-        let (outcome, taken) = ran(
-            &rt,
-            alloc,
-            &words,
-            files,
-            Vec::new(alloc),
-            65536,
-            Vec::new(alloc),
-        )?;
+        let (outcome, taken) = ran(&rt, alloc, &words, shelved(alloc, &["set 7 10\n"])?)?;
         assert_eq!(rt; outcome, Outcome::ReadFault { file });
         assert!(rt; taken.is_empty());
     }

@@ -1,5 +1,5 @@
 //! Judgments on reports.
-use super::{ran, shelved};
+use super::{ran, ran_with_faults, shelved};
 use crate::{Outcome, line_of};
 use ck_script::Why;
 use std::test::Fail;
@@ -102,15 +102,11 @@ const JUDGED: &[((&str, &str), &str, &str, Outcome)] = &[
 fn judges_reports(rt: HostRuntime) -> Result<(), Fail> {
     let alloc = rt.alloc();
     for ((updates, queries), report, line, judged) in JUDGED {
-        let files = shelved(alloc, &[updates, queries, report])?;
         let (outcome, taken) = ran(
             &rt,
             alloc,
             WORDS,
-            files,
-            Vec::new(alloc),
-            100,
-            Vec::new(alloc),
+            shelved(alloc, &[updates, queries, report])?,
         )?;
         assert_eq!(rt; outcome, *judged, "of {report}");
         assert_eq!(rt; taken.as_slice(), line.as_bytes());
@@ -127,15 +123,12 @@ fn judges_reports(rt: HostRuntime) -> Result<(), Fail> {
 fn a_report_is_a_file_too(rt: HostRuntime) -> Result<(), Fail> {
     let alloc = rt.alloc();
     let (updates, queries) = ONCE;
-    let files = shelved(alloc, &[updates, queries])?;
-    let none = Vec::new(alloc);
-    let (outcome, _) = ran(&rt, alloc, WORDS, files, none, 100, Vec::new(alloc))?;
+    let (outcome, _) = ran(&rt, alloc, WORDS, shelved(alloc, &[updates, queries])?)?;
     assert_eq!(rt; outcome, Outcome::ReadFault { file: 2 });
     let mut files = shelved(alloc, &[updates, queries])?;
     let long = vec![in alloc; b'\n'; 1000001]?;
     files.push((String::from_str(alloc, "r")?, long))?;
-    let none = Vec::new(alloc);
-    let (outcome, taken) = ran(&rt, alloc, WORDS, files, none, 100, Vec::new(alloc))?;
+    let (outcome, taken) = ran(&rt, alloc, WORDS, files)?;
     assert_eq!(rt; outcome, Outcome::TooLarge { file: 2 });
     assert!(rt; taken.is_empty());
     Ok(())
@@ -147,7 +140,7 @@ fn a_verdict_stops_at_a_fault(rt: HostRuntime) -> Result<(), Fail> {
     let ((updates, queries), report, line, _) = JUDGED[1];
     let files = shelved(alloc, &[updates, queries, report])?;
     let fails = vec![in alloc; 2u64]?;
-    let (outcome, taken) = ran(&rt, alloc, WORDS, files, Vec::new(alloc), 4, fails)?;
+    let (outcome, taken) = ran_with_faults(&rt, alloc, WORDS, files, Vec::new(alloc), 4, fails)?;
     assert_eq!(rt; outcome, Outcome::WriteFault);
     assert_eq!(rt; taken.as_slice(), &line.as_bytes()[..4]);
     Ok(())

@@ -13,17 +13,8 @@ fn listed<R: Threads + Wait + Sync>(
     alloc: Global,
     texts: &[&str],
 ) -> Result<(Outcome, Vec<u8>), AllocError> {
-    let files = shelved(alloc, texts)?;
     let words = ["list", "u", "q"];
-    ran(
-        rt,
-        alloc,
-        &words,
-        files,
-        Vec::new(alloc),
-        65536,
-        Vec::new(alloc),
-    )
+    ran(rt, alloc, &words, shelved(alloc, texts)?)
 }
 
 // A line so many times, and then these.

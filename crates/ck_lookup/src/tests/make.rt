@@ -1,5 +1,5 @@
 //! Summaries of generated runs.
-use super::ran;
+use super::ran_with_faults;
 use crate::{Outcome, make};
 use std::alloc::{AllocError, Global};
 use std::sync::Wait;
@@ -34,7 +34,7 @@ fn made<R: Threads + Wait + Sync>(
     fails: Vec<u64>,
 ) -> Result<(Outcome, Vec<u8>), AllocError> {
     let words = ["make", seed, lines];
-    ran(
+    ran_with_faults(
         rt,
         alloc,
         &words,

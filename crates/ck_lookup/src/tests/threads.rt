@@ -156,16 +156,12 @@ fn four_workers_answer_four_files_at_once(rt: HostRuntime) -> Result<(), Fail> {
 #[test]
 fn a_query_without_a_wait_has_either_answer(rt: HostRuntime) -> Result<(), Fail> {
     let alloc = rt.alloc();
-    let files = shelved(alloc, &["set 7 10\n", "get 7\n"])?;
     let words = ["table", "u", "q"];
     let (outcome, taken) = ran(
         &rt,
         alloc,
         &words,
-        files,
-        Vec::new(alloc),
-        65536,
-        Vec::new(alloc),
+        shelved(alloc, &["set 7 10\n", "get 7\n"])?,
     )?;
     assert_eq!(rt; outcome, Outcome::Done);
     let before = b"u 1 fresh\nq 1 1 7 absent\nt 7 = 10\nend\n";
