@@ -1,5 +1,5 @@
 -- The steps of the calls: that the domain allows them, and what they tell.
-use Rattle.std.proofs.Common.{◌≡◌, ℕ, suc, ◌+◌, ◌-◌, ◌<◌, ◌≤◌, ⊎_elim, inl, inr, slice_index, List, [], ◌∷◌, ◌++◌, length, append-nil, append_assoc, sym, ap, ◌∙◌, subst, arith}
+use Rattle.std.proofs.Common.{◌≡◌, ℕ, suc, ◌+◌, ◌-◌, ◌<◌, ◌≤◌, ⊎_elim, inl, inr, slice_index, List, [], ◌∷◌, ◌++◌, length, append_assoc, sym, ap, ◌∙◌, subst, arith}
 use Rattle.std.proofs.Math.Nat.{le_trans}
 use Rattle.ck_run.specs.declared.account.Account.{Account}
 use Rattle.ck_run.specs.declared.account.Entry.{Entry}
@@ -21,7 +21,7 @@ use Rattle.ck_epoch.specs.Ends.{IsDomainToken, IsReading, IsWriting}
 use Rattle.ck_epoch.specs.Calls.{MayFollow}
 use Rattle.ck_signal.specs.declared.signals.Signals.{Signals}
 use Rattle.ck_signal.specs.Words.{applied_word, answered_word, mark, reached, note, answered as asked, marks, reaches, notes, asks}
-use Rattle.ck_signal.specs.Signals.{inside, readers, own_size, MaySignal, log_by, signals}
+use Rattle.ck_signal.specs.Signals.{inside, readers, own_size, MaySignal, signals}
 use Rattle.ck_signal.specs.Told.{applied_word_of, answered_word_of, log_length, answers_during, IsRunOf, IsAnswerPlace, AreBelow, TrueSignals, writer_log, pass_answers, HasSeen, HasBeenTold}
 use Rattle.ck_signal.specs.Laws.{goes_on}
 use Rattle.ck_signal.proofs.TrueSignals.{true_signals}

@@ -4,7 +4,7 @@ use Rattle.std.proofs.lemmas.List.{get_or_append_left, get_or_default}
 use Rattle.std.proofs.Math.Seq.{get_or-append_seam}
 use Rattle.std.proofs.lemmas.List.Edits.{get_or-remove_below, get_or-remove_above, length-remove}
 use Rattle.std.specs.List.{remove}
-use Rattle.ck_words.specs.Buddies.{Piece, piece, Arena, IsPieceOut, AddsPiece, DropsPiece}
+use Rattle.ck_words.specs.Buddies.{piece, Arena, IsPieceOut, AddsPiece, DropsPiece}
 use Rattle.ck_words.specs.Held.{held_at, HoldsPieces}
 use Rattle.ck_words.proofs.Words.{lt_or_ge}
 

@@ -1,4 +1,4 @@
-use Rattle.std.proofs.Common.{true, sym, ap, subst, ◌∙◌}
+use Rattle.std.proofs.Common.{true, sym, subst, ◌∙◌}
 use Rattle.ck_epoch.specs.Lists.{Answers}
 use Rattle.ck_htlaw.specs.Client.{home_of}
 use Rattle.ck_ht.proofs.thread_tests.write.Goals as goal
