@@ -21,24 +21,12 @@ use crate::search::{Finding, Search};
 use ck_epoch::{Domain, Pass, Within};
 use ck_history::{Key, Look};
 use ck_htlaw::{HtClient, counters};
-use ck_htplan::{high_word, low_word};
+use ck_htplan::{EMPTY, FULL, HIGH, LOW, SLOT_WORDS, STATE, VALUE, high_word, low_word};
 use ck_probe::{key_code, slot};
 use ck_run::{Continues, Opens};
 use std::marker::Brand;
 
 const ROOT: u64 = 0;
-
-const STATE: u64 = 0;
-
-const LOW: u64 = 1;
-
-const HIGH: u64 = 2;
-
-const VALUE: u64 = 3;
-
-const EMPTY: u64 = 0;
-
-const FULL: u64 = 1;
 
 // Loads the table's word `at`, within a look.
 #[inline]
@@ -102,7 +90,7 @@ fn load_slot<D: Within<HtClient>>(
         → LoadsSlot (host D.meaning D.place D.part) domain.now.origin search.now i totals pass.old.token result pass.new.token }
     ensures depth { depth pass.new.token ≡ depth pass.old.token }
 {
-    let first = search.root / 32 + 4 * slot(search.hash, search.root % 32, i);
+    let first = search.root / 32 + SLOT_WORDS * slot(search.hash, search.root % 32, i);
     let state = load(domain, pass, first + STATE);
     if state == EMPTY {
         return Finding::Vacant;

@@ -21,12 +21,12 @@ ghost use Rattle.ck_htwrite.specs.Writes.{counters_in};
 use crate::copies::word_in;
 use crate::growth::rebuild;
 use crate::state::{HtState, Need};
-use crate::updates::{VALUE, delete, insert, move_key, reuse};
+use crate::updates::{delete, insert, move_key, reuse};
 use crate::writes::{ask_root, put_word};
 use ck_epoch::{Domain, Within, Writer};
 use ck_history::{Key, Reply};
 use ck_htlaw::HtClient;
-use ck_htplan::{Plan, high_word, low_word, plan};
+use ck_htplan::{Plan, VALUE, high_word, low_word, plan};
 use ck_probe::key_code;
 use ck_run::{Continues, Opens};
 

@@ -14,21 +14,18 @@ ghost use Rattle.ck_htwrite.specs.Writes.{counters_in, Steps};
 
 use crate::rebuild::{first_empty, store_pair};
 use crate::state::HtState;
-use crate::updates::{FULL, HIGH, LOW, STATE, VALUE};
 use ck_epoch::{Domain, Within, Writer};
 use ck_htlaw::HtClient;
+use ck_htplan::{FULL, HIGH, LOW, SLOT_WORDS, STATE, VALUE};
 use ck_probe::key_code;
 use ck_run::Continues;
-
-// The words of a slot.
-const SLOT: u64 = 4;
 
 // The word `j` of a slot.
 pub(crate) fn word_in(words: &Vec<u64>, at: u64, j: u64) -> u64
     requires { 4 * at + j < length words.now.items }
     ensures { result ≡ slice_index words.now.items (4 * at + j) }
 {
-    words[(SLOT * at + j) as usize]
+    words[(SLOT_WORDS * at + j) as usize]
 }
 
 // Puts a pair into the slot `at` of a copy.
@@ -37,7 +34,7 @@ pub(crate) fn put_pair(words: &mut Vec<u64>, at: u64, low: u64, high: u64, value
     requires few { at < 524288 }
     ensures { words.new ≡ with_pair words.old at low high value }
 {
-    let first = SLOT * at;
+    let first = SLOT_WORDS * at;
     words[(first + VALUE) as usize] = value;
     words[(first + LOW) as usize] = low;
     words[(first + HIGH) as usize] = high;

@@ -10,8 +10,8 @@ ghost use Rattle.ck_htwrite.specs.Entries.{AreGathered, HoldsMap, key_in};
 
 use crate::copies::word_in;
 use crate::state::HtState;
-use crate::updates::{FULL, HIGH, LOW, STATE, VALUE};
 use ck_history::Key;
+use ck_htplan::{FULL, HIGH, LOW, STATE, VALUE};
 use std::alloc::{AllocError, Global};
 use std::collections::BTreeMap;
 

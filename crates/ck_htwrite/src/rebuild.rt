@@ -17,17 +17,12 @@ ghost use Rattle.ck_htlaw.specs.Table.{WriterState, released, released_log};
 ghost use Rattle.ck_htwrite.specs.Rebuild.{BeginsRebuildAt, clear_steps, pair_steps};
 ghost use Rattle.ck_htwrite.specs.Writes.{counters_in, opened, IsFreeBy, MayMake, MayStep, Steps, WriterAt, WriterIs};
 
-use crate::updates::{FULL, HIGH, LOW, STATE, VALUE};
 use crate::writes::store;
 use ck_epoch::{Domain, Item, Within, Writer};
 use ck_htlaw::HtClient;
+use ck_htplan::{EMPTY, FULL, HIGH, LOW, SLOT_WORDS, STATE, VALUE};
 use ck_probe::slot;
 use ck_run::{Continues, Opens};
-
-const EMPTY: u64 = 0;
-
-// The words of a slot.
-const SLOT: u64 = 4;
 
 // The first step of a rebuild into the region of this root, which is free: it clears the first slot. `O` has the name and the arguments of
 // the call.
@@ -58,7 +53,7 @@ pub(crate) fn clear_rest<D: Within<HtClient>, F>(
 {
     let at = root / 32;
     for i in 1..1 << (root % 32) {
-        store::<D, F, Continues>(domain, writer, at + SLOT * i + STATE, EMPTY);
+        store::<D, F, Continues>(domain, writer, at + SLOT_WORDS * i + STATE, EMPTY);
     }
 }
 
@@ -79,7 +74,7 @@ pub(crate) fn store_pair<D: Within<HtClient>, F, O: Opens>(
     requires due { MayMake (host D.meaning D.place D.part) domain.now.origin writer.old.token (opened O.opens (pair_steps (lies (host D.meaning D.place D.part) domain.now.origin) root at low high value)) }
     ensures steps { Steps (host D.meaning D.place D.part) domain.now.origin writer.old (opened O.opens (pair_steps (lies (host D.meaning D.place D.part) domain.now.origin) root at low high value)) writer.new }
 {
-    let first = root / 32 + SLOT * at;
+    let first = root / 32 + SLOT_WORDS * at;
     store::<D, F, O>(domain, writer, first + VALUE, value);
     store::<D, F, Continues>(domain, writer, first + LOW, low);
     store::<D, F, Continues>(domain, writer, first + HIGH, high);
@@ -138,7 +133,7 @@ pub(crate) fn first_empty(words: &[u64], c: u64, h: u64) -> u64
 {
     for i in 0..1 << c {
         let at = slot(h, c, i);
-        if words[(SLOT * at + STATE) as usize] == EMPTY {
+        if words[(SLOT_WORDS * at + STATE) as usize] == EMPTY {
             return at;
         }
     }

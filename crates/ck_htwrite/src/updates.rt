@@ -14,22 +14,8 @@ use crate::writes::{bump, put_word};
 use ck_epoch::{Domain, Within, Writer};
 use ck_history::Key;
 use ck_htlaw::HtClient;
-use ck_htplan::{high_word, low_word};
+use ck_htplan::{STATE, TOMBSTONE, high_word, low_word};
 use ck_run::{Continues, Opens};
-
-// The words of a slot.
-pub(crate) const STATE: u64 = 0;
-
-pub(crate) const LOW: u64 = 1;
-
-pub(crate) const HIGH: u64 = 2;
-
-pub(crate) const VALUE: u64 = 3;
-
-// The states of a slot that is in use.
-pub(crate) const FULL: u64 = 1;
-
-pub(crate) const TOMBSTONE: u64 = 2;
 
 // A slot of the present region gets this pair, and so does the copy.
 fn place<D: Within<HtClient>, F, O: Opens>(

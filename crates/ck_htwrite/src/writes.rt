@@ -16,6 +16,7 @@ ghost use Rattle.ck_htwrite.specs.Updates.{bumped_lists};
 use crate::state::HtState;
 use ck_epoch::{Domain, Within, Writer};
 use ck_htlaw::HtClient;
+use ck_htplan::SLOT_WORDS;
 use ck_run::Opens;
 
 // Stores a number in the table's word `at`. `O` has the name and the arguments of the call that this step opens, if it opens one.
@@ -64,7 +65,7 @@ pub(crate) fn put_word<D: Within<HtClient>, F, O: Opens>(
     ensures step { Steps (host D.meaning D.place D.part) domain.now.origin writer.old (entry O.opens (Store ((lies (host D.meaning D.place D.part) domain.now.origin).word state.old.root at j) value) ∷ []) writer.new }
     ensures state { state.new ≡ record state.old { words = with_item state.old.words (4 * at + j) value } }
 {
-    let word = 4 * at + j;
+    let word = SLOT_WORDS * at + j;
     store::<D, F, O>(domain, writer, state.root / 32 + word, value);
     state.words[word as usize] = value;
 }
