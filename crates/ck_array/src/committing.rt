@@ -23,13 +23,11 @@ ghost use Rattle.ck_arraylaw.specs.Regions.{place_in};
 ghost use Rattle.ck_array.specs.Writes.{commit_entries, filling_by, idle, member_stores, IsReady, IsStoreDue};
 
 use crate::state::ArrayState;
-use ck_arraylaw::ArrayClient;
+use ck_arraylaw::{ArrayClient, ROOT};
 use ck_epoch::{Domain, Item, Within, Writer};
 use ck_history::{Edit, EditReply};
 use ck_run::{Continues, Opens};
 use std::marker::Brand;
-
-const ROOT: u64 = 0;
 
 // Stores a number in the array's word `at`. `O` has the name of the call that this step opens, if it opens one.
 fn store<D: Within<ArrayClient>, F, O: Opens>(

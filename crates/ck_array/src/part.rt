@@ -16,13 +16,11 @@ ghost use Rattle.ck_history.specs.declared.edit.TheConstants.{MOST_MEMBERS};
 
 pub use crate::committing::commit;
 pub use crate::writing::{add, drop_one};
-use ck_arraylaw::{ARENA, ARENA_LOG, ArrayClient};
+use ck_arraylaw::{ARENA, ARENA_LOG, ArrayClient, ROOT};
 use ck_epoch::{Domain, Pass, Within};
 use ck_history::MOST_MEMBERS;
 use ck_run::{Continues, Opens};
 use std::marker::Brand;
-
-const ROOT: u64 = 0;
 
 // The array's last word.
 const LAST: u64 = ARENA + (1 << ARENA_LOG) - 1;

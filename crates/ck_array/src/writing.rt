@@ -13,13 +13,11 @@ ghost use Rattle.ck_arraylaw.specs.Known.{knows};
 ghost use Rattle.ck_array.specs.Writes.{opens_of, IsReady};
 
 use crate::state::ArrayState;
-use ck_arraylaw::ArrayClient;
+use ck_arraylaw::{ArrayClient, ROOT};
 use ck_epoch::{Domain, Within, Writer};
 use ck_history::{Edit, EditReply};
 use ck_run::Opens;
 use std::marker::Brand;
-
-const ROOT: u64 = 0;
 
 // Makes an edit of the pending list. Its load of the root is where it takes place. `O` has the name and the argument of the call.
 pub(crate) fn edit_pending<D: Within<ArrayClient>, F, O: Opens>(

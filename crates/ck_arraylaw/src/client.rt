@@ -3,7 +3,10 @@ ghost use Rattle.std.specs.Prelude.{◌≡◌, ◌^◌};
 
 use ck_epoch::{Client, Within};
 
-/// The array's words begin with the root, and the arena follows.
+/// The array's words begin with the root: where the region of the committed list begins.
+pub const ROOT: u64 = 0;
+
+/// The arena follows.
 pub const ARENA: u64 = 1;
 
 /// The arena has 2^15 words.

@@ -4,5 +4,5 @@
 mod client;
 mod laws;
 
-pub use client::{ARENA, ARENA_LOG, ArrayClient, LEAST_LOG};
+pub use client::{ARENA, ARENA_LOG, ArrayClient, LEAST_LOG, ROOT};
 pub use laws::{Regions, array_law, reached_law};
