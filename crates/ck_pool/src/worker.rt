@@ -114,14 +114,15 @@ fn all_ended<E, B>(runs: &[QueryRun<E, B>]) -> bool
     true
 }
 
-// Loads once more for each file that stands at a `wait`. The files move to the other vector, so that no round takes memory once both have grown.
+// Loads once more for each file that stands at a `wait`, and tells whether one of them went on. The files move to the other vector, so that no round
+// takes memory once both have grown.
 fn load_all<D: Dict, G: Gate, R: Wait>(
     context: &Context<D, G, R>,
     desk: &Desk<D::Eye>,
     asks: &[D::AskFile],
     runs: &mut Vec<QueryRun<D::Eye, D::Answer>>,
     others: &mut Vec<QueryRun<D::Eye, D::Answer>>,
-) -> Result<(), AllocError>
+) -> Result<bool, AllocError>
     requires files { AreOnDesk (D.eyes context.now.dict.now) desk.now.eyes (map D.AskFile.items asks.now) }
     requires each { AreQueryRuns (D.eyes context.now.dict.now) desk.now.eyes (map D.AskFile.items asks.now) runs.old.items }
     requires none { others.old.items ≡ [] }
@@ -129,11 +130,14 @@ fn load_all<D: Dict, G: Gate, R: Wait>(
     ensures all { OnOk result ((f : ℕ) → runs_of f others.new.items ≡ runs_of f runs.old.items) }
     ensures none { OnOk result (runs.new.items ≡ []) }
 {
+    let mut went_on = false;
     while let Some(run) = runs.pop() {
+        let stood_at = run.waits_at;
         let run = load_again(context, desk, asks, run)?;
+        went_on = went_on || run.waits_at != stood_at;
         others.push(run)?;
     }
-    Ok(())
+    Ok(went_on)
 }
 
 // Runs all files to their ends, in turn.
@@ -160,7 +164,9 @@ fn finish_all<D: Dict, G: Gate, R: Wait>(
             return Err(AllocError);
         }
         waiting.turn(context.rt);
-        load_all(context, desk, asks, &mut runs, &mut others)?;
+        if load_all(context, desk, asks, &mut runs, &mut others)? {
+            waiting = Waiting::new();
+        }
         std::mem::swap(&mut runs, &mut others);
     }
     unreachable!()
