@@ -32,6 +32,10 @@ PROGRAMS = {
         "awk": ["awk", "-f", os.path.join(HERE, "peer.awk")],
         "python": [sys.executable, os.path.join(HERE, "peer.py")],
     },
+    "held": {
+        "peer_ck": [os.path.join(OUT, "peer_ck")],
+        "lookup": [LOOKUP, "table"],
+    },
     "list": {
         "peer_ck": [os.path.join(OUT, "peer_ck_list")],
         "lookup": [LOOKUP, "list"],
@@ -93,6 +97,12 @@ def low_key(rng):
     yield "q1", [f"wait {MILLION}", "get 1"]
 
 
+def in_turn(rng):
+    """20,000 updates and as many queries, each of which waits for the other kind's last"""
+    yield "u", chain.from_iterable((f"set {1 + i % 100} {i}", f"hold 1 {i + 1}") for i in range(20_000))
+    yield "q1", chain.from_iterable((f"wait {i + 1}", f"get {1 + i % 100}") for i in range(20_000))
+
+
 def changes_of(rng):
     """4,096 members, and then 200 times 50 drops and adds and a commit"""
     live = [rng.randrange(1 << 40) for _ in range(4_096)]
@@ -122,7 +132,7 @@ def late_views(rng):
         yield f"q{file}", ["wait 24297"] + ["all"] * 25
 
 
-KIND = {few_sets: "table", few_gets: "table", mixed: "table", wide: "table", churn: "table", low_key: "table", views: "list", late_views: "list"}
+KIND = {few_sets: "table", few_gets: "table", mixed: "table", wide: "table", churn: "table", low_key: "table", in_turn: "held", views: "list", late_views: "list"}
 LOADS = {load.__name__: load for load in KIND}
 MANY_REPORTS = ("views",)
 
@@ -211,7 +221,7 @@ def main():
     words = words.parse_args()
     if words.also:
         for kind, programs in PROGRAMS.items():
-            programs["also"] = [os.path.abspath(words.also), kind]
+            programs["also"] = [os.path.abspath(words.also)] + programs["lookup"][1:]
     if not words.small_pages:
         os.environ["GLIBC_TUNABLES"] = "glibc.malloc.hugetlb=1"
     os.makedirs(OUT, exist_ok=True)
