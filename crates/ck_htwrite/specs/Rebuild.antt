@@ -1,4 +1,4 @@
--- A rebuild: what the writer stores in a region that isn't published, and what holds of it meanwhile.
+-- The stores of a pair; and a rebuild: what the writer stores in a region that isn't published, and what holds of it meanwhile.
 use Rattle.std.specs.Prelude.{◌≡◌, ◌≢◌, ℕ, zero, suc, ◌+◌, ◌*◌, ◌^◌, ◌<◌, ◌≤◌, ◌⊎◌, List, [], ◌∷◌, ◌++◌, length, slice_index}
 use Rattle.std.specs.Global.{Vec}
 use Rattle.std.specs.Vec.{with_item}

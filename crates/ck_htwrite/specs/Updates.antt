@@ -86,7 +86,7 @@ MayBegin g opens = ⊥
 abbrev pub AddsFresh : List ℕ → ℕ → ℕ → Type 0
 AddsFresh opens key value = (l : Layout) (p : WriterState) (at : ℕ) → plan_now l p key ≡ Empty at → (word : ℕ) → by_call l p (opening_of opens) word ≡ adds l p empty (record { key = key; number = value; to = at }) word
 
--- how a `put` opens, or else a `set`
+-- how the call opens: `put` where true, or else `set`
 abbrev pub storing : Bool → ℕ → ℕ → List ℕ
 storing true key value = putting ∷ key ∷ value ∷ []
 storing false key value = setting ∷ key ∷ value ∷ []
@@ -161,7 +161,7 @@ module _ (l : Layout) (p : WriterState) where
   PutSteps key value (Stand at) ss = Asks l ss
   PutSteps key value (Move to from) ss = Asks l ss
 
-  -- those of `put`, which keeps the value of a key that is present, or else of `set`; and the answer
+  -- the steps of `put` where true, which keeps the value of a key that is present, or else of `set`; and the answer
   abbrev pub StoreSteps : Bool → ℕ → ℕ → Plan → List Step → Type 0
   StoreSteps true = PutSteps
   StoreSteps false = SetSteps

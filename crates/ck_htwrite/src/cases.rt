@@ -156,7 +156,8 @@ fn add_reused<D: Within<HtClient>, F, O: Opens>(
     Reply::Fresh
 }
 
-// `set` by its plan, or `put`, which keeps the value of a key that is present, also where a tombstone stands before it.
+// `put` by its plan where `keeps` is true, which keeps the value of a key that is present, also where a tombstone stands before it; or else
+// `set`.
 pub(crate) fn store_by<D: Within<HtClient>, F, O: Opens>(
     domain: &Domain<D>,
     writer: &mut Writer<D, F>,

@@ -1,4 +1,4 @@
-//! How the pairs of the present region are copied into one that isn't published.
+//! The writer's copies of regions: their words, and how the pairs of the present one are copied into one that isn't published.
 ghost use Rattle.std.specs.Prelude.{◌≡◌, ℕ, ◌+◌, ◌*◌, ◌^◌, ◌<◌, ◌≤◌, List, length, map, slice_index};
 ghost use Rattle.ck_run.specs.declared.account.Step.{Step};
 ghost use Rattle.ck_run.specs.Run.{further};

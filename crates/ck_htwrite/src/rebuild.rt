@@ -1,4 +1,5 @@
-//! The steps of a rebuild: stores in a region that isn't published, the store of its root, and the retirement of the one that it replaces.
+//! The steps of a rebuild: stores in a region that isn't published, the store of its root, and the retirement of the one that it replaces. The
+//! four stores of a pair are those of an update too.
 ghost use Rattle.std.specs.Prelude.{◌≡◌, ℕ, ◌+◌, ◌-◌, ◌*◌, ◌^◌, ◌<◌, ◌≤◌, List, [], ◌∷◌, ◌++◌, length, cond, nat_lt, map};
 ghost use Rattle.ck_run.specs.declared.account.Step.TheVariants.{Load, Store};
 ghost use Rattle.ck_run.specs.Run.{entry, further, handing};

@@ -41,7 +41,7 @@ fn owned(alloc: Global, words: &[&str]) -> Result<Vec<String>, AllocError> {
     Ok(list)
 }
 
-// The same into a sink with room for every report here, which takes at most so many bytes a call. Gives the outcome and what the sink took.
+// The same into a sink with room for every report here, which takes at most `most` bytes a call. Gives the outcome and what the sink took.
 fn ran_with_faults<R: Threads + Wait + Sync>(
     rt: &R,
     alloc: Global,
@@ -59,7 +59,7 @@ fn ran_with_faults<R: Threads + Wait + Sync>(
     Ok((outcome, taken))
 }
 
-// The same where nothing fails.
+// `ran_with_faults` where nothing fails.
 fn ran<R: Threads + Wait + Sync>(
     rt: &R,
     alloc: Global,
