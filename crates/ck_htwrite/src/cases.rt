@@ -157,7 +157,8 @@ fn add_reused<D: Within<HtClient>, F, O: Opens>(
 }
 
 // `put` by its plan where `keeps` is true, which keeps the value of a key that is present, also where a tombstone stands before it; or else
-// `set`.
+// `set`. It is inlined, so that each of its two callers has code for its own `keeps`.
+#[inline(always)]
 pub(crate) fn store_by<D: Within<HtClient>, F, O: Opens>(
     domain: &Domain<D>,
     writer: &mut Writer<D, F>,
