@@ -66,7 +66,7 @@ impl Backlog {
         ensures lists { IfOk result (λ b. (list : ℕ) → list < 4 → items_on b.lists list ≡ []) }
         ensures rest { IfOk result (λ b. (b.waiting ≡ []) × (b.room ≡ room)) }
     {
-        let lists = PendingList::four(alloc, room)?;
+        let lists = PendingList::empty_lists(alloc, room)?;
         let waiting = VecDeque::with_capacity(alloc, room)?;
         Ok(Backlog { lists, waiting })
     }

@@ -60,7 +60,7 @@ impl<P> PendingList<P> {
 
 impl<P: Drop> PendingList<P> {
     /// Four empty lists, each with room for so many items.
-    pub fn four(alloc: Global, room: usize) -> Result<Vec<PendingList<P>>, AllocError>
+    pub fn empty_lists(alloc: Global, room: usize) -> Result<Vec<PendingList<P>>, AllocError>
         ensures count { IfOk result (λ lists. vec_len lists ≡ 4) }
         ensures each { IfOk result (λ lists. All (λ l. (l.room ≡ room) × (l.items ≡ [])) lists.items) }
     {

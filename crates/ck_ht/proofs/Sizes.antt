@@ -6,9 +6,6 @@ use Rattle.ck_htlaw.specs.declared.client.HtClient.{HtClient}
 use Rattle.ck_htlaw.specs.Layout.{arena, arena_words, counters_of, log_of}
 use Rattle.ck_ht.specs.Room.{HasRoomFor, IsRoomFor}
 
-pub few_counters : (log : ℕ) → log ≤ 23 → 2 ^ (log - 5) ≤ 262144
-few_counters log h = pow-le-pow_right {n = 2} (omega arith) {i = log - 5} {j = 18} (omega arith)
-
 -- the opening region has at most half of an arena of 64 words or more
 pub half_at_opening : (client : HtClient) → 6 ≤ client.arena_log → 2 * 2 ^ (log_of (32 * arena (counters_of client) + 3) + 2) ≤ arena_words (counters_of client)
 half_at_opening client least =

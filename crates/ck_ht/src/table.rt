@@ -49,7 +49,7 @@ use ck_arena::{Pieces, give_all};
 use ck_epoch::{Closed, Domain, Item, Pass, Writer};
 use ck_history::{Busy, Key, Look, Reply, Update};
 use ck_htlaw::HtClient;
-use ck_htwrite::HtState;
+use ck_htwrite::{HtState, counter_count};
 use ck_signal::Signals;
 use ck_words::Back;
 use crossbeam_utils::Backoff;
@@ -114,9 +114,6 @@ pub fn home(item: Item) -> Back
         log: item.log,
     }
 }
-
-/// How many pieces can be out.
-const ROOM: u64 = 262_144;
 
 /// The arena has 2^23 words, which is room for a map of the most pairs.
 const ARENA_LOG: u64 = 23;
@@ -227,8 +224,9 @@ impl Ht {
         ensures events { IfOk result (λ r. All (λ p. pass_events r.0.origin p.token ≡ []) r.2.items) }
     {
         let state = HtState::new(alloc, &client)?;
+        let room = counter_count(&client);
         let signals = Signals::new(client, readers);
-        let (domain, writer, passes) = Domain::new(alloc, signals, readers, ROOM, handler)?;
+        let (domain, writer, passes) = Domain::new(alloc, signals, readers, room, handler)?;
         Ok((Ht { domain }, HtWriter { writer, state }, passes))
     }
 

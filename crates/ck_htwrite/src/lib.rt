@@ -16,5 +16,5 @@ mod writes;
 
 pub use calls::{put, remove, set};
 pub use ck_htlaw::HtClient;
-pub use state::{HtState, Need};
+pub use state::{HtState, Need, counter_count};
 pub use tidying::tidy;

@@ -57,8 +57,8 @@ fn arena_log(client: &HtClient) -> u64
     client.arena_log.max(LOG_MIN)
 }
 
-// How many counters the table has: one for each 32 words of its arena.
-fn counters(client: &HtClient) -> u64
+/// How many counters a table has: one for each 32 words of its arena. No more regions can be out.
+pub fn counter_count(client: &HtClient) -> u64
     requires most { client.now.arena_log ≤ 24 }
     ensures count { result ≡ counters_of client.now }
     ensures some { 1 ≤ result }
@@ -85,7 +85,7 @@ impl HtState {
         ensures shape { IfOk result (λ s. IsShaped (counters_of client.now) s) }
         ensures arena { IfOk result (λ s. (place : _) → IsKept (counters_of client.now) place s.root [] s.arena) }
     {
-        let counters = counters(client);
+        let counters = counter_count(client);
         let room = largest(counters);
         let mut words = Vec::with_capacity(alloc, room)?;
         words.resize(4 << OPENING_LOG, 0)?;

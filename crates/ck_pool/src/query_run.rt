@@ -10,6 +10,7 @@ use crate::dict::Dict;
 use crate::query_lines::{retry_wait, run_from};
 use crate::waiting::Waiting;
 use ck_io::Gate;
+use ck_script::LineList;
 use std::alloc::AllocError;
 use std::sync::Wait;
 
@@ -36,10 +37,12 @@ fn run_file<D: Dict, G: Gate, R: Wait>(
     ensures file { IfOk result (λ r. r.file ≡ file) }
     ensures run { IfOk result (λ r. IsFileRun (D.eyes context.now.dict.now) eye (D.AskFile.items lines.now) r) }
 {
+    // Room for all answers at once: a list that grows leaves its old places behind.
+    let answers = Vec::with_capacity(context.alloc, lines.len())?;
     let mut run = QueryRun {
         file,
         eye,
-        answers: Vec::new(context.alloc),
+        answers,
         waits_at: None,
     };
     let who = file as u64 + 1;

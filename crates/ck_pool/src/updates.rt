@@ -82,7 +82,7 @@ pub fn run_updates<D: Dict, G: Gate, R: Wait>(
     ensures calls { (D.hands context.now.dict.now).calls hand.new < call_bound }
     ensures ran { IfOk result (λ replies. IsUpdateFileServed (D.hands context.now.dict.now) hand.old (D.UpFile.items lines.now) hand.new replies.items) }
 {
-    let mut replies = Vec::new(context.alloc);
+    let mut replies = Vec::with_capacity(context.alloc, lines.len())?;
     for i in 0..lines.len() {
         let line = lines.get(i);
         context.gate.before(0, line.line);

@@ -4,10 +4,10 @@ use std::sync::Wait;
 use std::thread::Parker;
 use std::time::Duration;
 
-/// So often a task looks again at once, or yields: for some hundred microseconds.
+/// So many turns of a wait spin or yield, which takes some hundred microseconds in all.
 const AT_ONCE: u32 = 256;
 
-/// How many microseconds it sleeps after that, from one look to the next.
+/// How many microseconds each later turn sleeps.
 const NAP: u64 = 50;
 
 /// The turns of one wait. At first they are those of `Backoff`, so that what comes soon is seen soon. Later ones sleep, so that a long wait leaves

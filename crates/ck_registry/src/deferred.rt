@@ -52,7 +52,7 @@ impl Deferred {
         ensures lists { IfOk result (λ d. (list : ℕ) → list < 4 → items_on d.lists list ≡ []) }
         ensures rest { IfOk result (λ d. (d.waiting ≡ []) × (d.room ≡ room)) }
     {
-        let lists = PendingList::four(alloc, room)?;
+        let lists = PendingList::empty_lists(alloc, room)?;
         let waiting = VecDeque::with_capacity(alloc, room)?;
         Ok(Deferred { lists, waiting })
     }

@@ -8,8 +8,8 @@ use std::alloc::{AllocError, Global};
 use std::thread;
 use std::thread::Threads;
 
-/// How many lines a task prints at a time. A part of a report that has no more is printed in one task: a thread that is
-/// started costs as much as about a thousand lines.
+/// How many lines a task prints at a time. A part of a report that has no more is printed in one task, since starting a
+/// thread costs as much as a thousand lines or so.
 const BLOCK: usize = 8192;
 
 /// How many lines one task prints before what is there is put.

@@ -5,7 +5,7 @@ use Rattle.ck_pool.proofs.query_run.run_file.Goals as goal
 pub returns-clause-run : goal.returns-clause-run
 returns-clause-run g c =
     let u = c.in_ok-run.ensures in
-    let none : c.new.result.items ≡ [] = search rules in
+    let none : c.in_ok-answers.answers.items ≡ [] = search rules in
     record {
       is_ready = u.ready;
       same = u.number;

@@ -1,4 +1,4 @@
-use Rattle.std.proofs.Common.{◌≡◌, ℕ, ◌+◌, ◌*◌, ◌^◌, ◌≤◌, [], replicate, ap, ◌∙◌, sym, subst}
+use Rattle.std.proofs.Common.{◌≡◌, ℕ, ◌+◌, ◌*◌, ◌^◌, ◌≤◌, [], replicate, ap, ◌∙◌, sym, subst, arith}
 use Rattle.ck_run.specs.Tokens.{origin}
 use Rattle.ck_epoch.specs.State.{Origin, Token, state}
 use Rattle.ck_signal.specs.declared.signals.Signals.{Signals}
@@ -21,7 +21,7 @@ use Rattle.ck_events.proofs.Opening.{all_made}
 use Rattle.ck_ht.proofs.AtOpening.{all_ready, none_done}
 use Rattle.ck_ht.proofs.Keyed.{none_keyed}
 use Rattle.ck_ht.proofs.Settling.{is_within}
-use Rattle.ck_ht.proofs.Sizes.{few_counters, half_at_opening}
+use Rattle.ck_ht.proofs.Sizes.{half_at_opening}
 use Rattle.ck_ht.proofs.table.Ht.open.Goals as goal
 
 pub invariant_of-result-2 : goal.invariant_of-result-2
@@ -32,7 +32,7 @@ invariant_of-result-2 g c =
     subst (λ (o : Origin (Signals HtClient)). IsWriterReady o d.writer s.state) (sym (ap (λ (t : Token (Signals HtClient)). origin t) is)) record {
       own = subst (λ (w : Writer (Signals HtClient) g.row.F.Denot). AreTableItems (counters_in with_signals d.domain.origin) 0 (unreturned (state w.token) w.waiting)) (sym d.ensures.writer) (All-nil (λ (k : Retired). IsTableItem (counters_in with_signals d.domain.origin) 0 k.item));
       given = ap (λ w. w.waiting) d.ensures.writer;
-      room = subst (λ (x : ℕ × ℕ). x.0 ≤ x.1) (λ i. (many i, sym (ap (λ w. w.room) d.ensures.writer) i)) (few_counters c.args.client.arena_log c.requires.most);
+      room = let room = ap (λ w. w.room) d.ensures.writer in let counted = c.counter_count-room.ensures.count in omega arith;
       half = subst (λ (x : ℕ × ℕ). 2 * 2 ^ (log_of x.0 + 2) ≤ arena_words x.1) (λ i. (sym (ap (λ x. x.root) s.ensures.state) i, many i)) (half_at_opening c.args.client c.requires.least);
       keys = subst (λ (t : Token (Signals HtClient)). HasKeys (map_after (knows with_signals d.domain.origin t).log)) (sym is) none_keyed;
       ready = (opened_ready with_signals is_within d.domain d.ensures.words.1 d.writer is (ap (λ w. w.waiting) d.ensures.writer) (ap (λ w. w.tally) d.ensures.writer) s.state

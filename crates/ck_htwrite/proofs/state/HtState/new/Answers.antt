@@ -10,7 +10,7 @@ use Rattle.ck_htwrite.proofs.state.HtState.new.Goals.{In_ok-vec}
 
 -- the first region is at the arena's start
 at_first : (c : In_ok-vec) → c.in-Some.at ≡ arena (counters_of c.args.client.now)
-at_first c = c.in-Some.ensures.first (ap (λ a. a.out) c.in_ok-arena.ensures) ∙ (ap (λ a. a.first) c.in_ok-arena.ensures ∙ ap (λ (k : ℕ). 1 + k) c.counters-counters.ensures.count)
+at_first c = c.in-Some.ensures.first (ap (λ a. a.out) c.in_ok-arena.ensures) ∙ (ap (λ a. a.first) c.in_ok-arena.ensures ∙ ap (λ (k : ℕ). 1 + k) c.counter_count-counters.ensures.count)
 
 pub returns-clause-shape : goal.returns-clause-shape
 returns-clause-shape c =
@@ -27,7 +27,7 @@ pub returns-clause-arena : goal.returns-clause-arena
 returns-clause-arena c place =
     let n = counters_of c.args.client.now in
     opening_kept n place c.in-Some.at c.take.new.self
-    (still_of_table n c.in_ok-arena.arena c.take.new.self _ c.in-Some.ensures.after (new_of_table n _ _ c.in_ok-arena.arena c.in_ok-arena.ensures c.counters-counters.ensures.count c.arena_log.ensures.long))
+    (still_of_table n c.in_ok-arena.arena c.take.new.self _ c.in-Some.ensures.after (new_of_table n _ _ c.in_ok-arena.arena c.in_ok-arena.ensures c.counter_count-counters.ensures.count c.arena_log.ensures.long))
     (at_first c) c.in-Some.ensures.is_out alone
   where
     alone : (p : Piece) → IsPieceOut c.take.new.self p → p ≡ piece c.in-Some.at 5

@@ -1,6 +1,6 @@
 use Rattle.std.proofs.Common.{◌≡◌, [], vec_len, vec_capacity, All}
 use Rattle.ck_epoch.specs.Lists.{PendingList}
-use Rattle.ck_epoch.proofs.lists.PendingList.four.Given as goal
+use Rattle.ck_epoch.proofs.lists.PendingList.empty_lists.Given as goal
 
 abbrev pub invariant-loop-i : goal.invariant-loop-i
 invariant-loop-i g l = record {

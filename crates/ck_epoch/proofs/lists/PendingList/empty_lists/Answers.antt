@@ -1,7 +1,7 @@
 use Rattle.std.proofs.Common.{◌≡◌, [], ap, sym, ◌∙◌, subst, All, arith}
 use Rattle.std.proofs.lemmas.List.Elements.{All-push}
 use Rattle.ck_epoch.specs.Lists.{PendingList}
-use Rattle.ck_epoch.proofs.lists.PendingList.four.Goals as goal
+use Rattle.ck_epoch.proofs.lists.PendingList.empty_lists.Goals as goal
 
 pub loop-i-preserved : goal.loop-i-preserved
 loop-i-preserved g c =
